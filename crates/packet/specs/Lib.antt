@@ -1,0 +1,4 @@
+pub mod Words
+pub mod Messages
+pub mod Reading
+pub mod Grammar

@@ -1,0 +1,9 @@
+// Payloads: the descriptor, the messages behind it, and drafts of packets to be sent.
+mod reading;
+mod records;
+mod words;
+
+pub use reading::Packet;
+pub use records::Message;
+pub use records::Record;
+pub use words::Descriptor;
