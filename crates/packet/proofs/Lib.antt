@@ -1,2 +1,3 @@
 pub mod Steps
 pub mod Spelling
+pub mod Walks

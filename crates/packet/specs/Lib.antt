@@ -2,3 +2,4 @@ pub mod Words
 pub mod Messages
 pub mod Reading
 pub mod Grammar
+pub mod Walking

@@ -1,9 +1,11 @@
 // Payloads: the descriptor, the messages behind it, and drafts of packets to be sent.
 mod reading;
 mod records;
+mod walking;
 mod words;
 
 pub use reading::Packet;
 pub use records::Message;
 pub use records::Record;
+pub use walking::Cursor;
 pub use words::Descriptor;
