@@ -1,3 +1,4 @@
 pub mod Steps
 pub mod Spelling
 pub mod Walks
+pub mod Buffers

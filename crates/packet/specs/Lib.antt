@@ -3,3 +3,4 @@ pub mod Messages
 pub mod Reading
 pub mod Grammar
 pub mod Walking
+pub mod Drafts
