@@ -2,3 +2,4 @@ pub mod Steps
 pub mod Spelling
 pub mod Walks
 pub mod Buffers
+pub mod Packets

@@ -32,7 +32,7 @@ use Rattle.packet.specs.Words.{descriptorOf, major, wordsOf}
 use Rattle.packet.specs.declared.words.Descriptor.{Descriptor}
 use Rattle.packet.proofs.Steps.{none-left, one-then, stops}
 
-not-broken : (s : List ℕ) → 4 ≤ length s → 4 ≤ getD s 0 0 → getD s 0 0 ≤ length s → broken s ≡ false
+pub not-broken : (s : List ℕ) → 4 ≤ length s → 4 ≤ getD s 0 0 → getD s 0 0 ≤ length s → broken s ≡ false
 not-broken s four least whole = or-from _ _ (le-ltb (length s) 4 four) (or-from _ _ (le-ltb (getD s 0 0) 4 least) (le-ltb (length s) (getD s 0 0) whole))
 
 -- Spelled, then read.
@@ -47,7 +47,7 @@ by-kind : {R : Type 0} (k : Layout R) (f : ℕ → R → Record) (s : List ℕ) 
 by-kind k f s place four least whole same admitted e = e ∙ ap (told f) (accepted k s place four least whole same admitted)
 
 -- the checks of a whole message pass
-passed : (s : List ℕ) (place : ℕ) (x y : Result Message Fault) → 4 ≤ length s → 4 ≤ getD s 0 0 → getD s 0 0 ≤ length s → cond (broken s) x y ≡ y
+pub passed : (s : List ℕ) (place : ℕ) (x y : Result Message Fault) → 4 ≤ length s → 4 ≤ getD s 0 0 → getD s 0 0 ≤ length s → cond (broken s) x y ≡ y
 passed s place x y four least whole = cond-false _ _ _ (not-broken s four least whole)
 
 pub says-reads : (bytes : List ℕ) (m : Message) → Says bytes m → MessageReads bytes m
@@ -113,11 +113,11 @@ as-said : {bytes spelled : List ℕ} {m said : Message} → bytes ≡ spelled �
 as-said {spelled = spelled} {m = m} e f says = subst (λ (b : List ℕ). Says b m) (sym e) (subst (λ (x : Message). Says spelled x) (sym f) says)
 
 -- a check that was passed, where an answer came
-past : {X : Type 0} (b : Bool) (f : Fault) (x : Result X Fault) (y : X) → cond b (Err f) x ≡ Ok y → (b ≡ false) × (x ≡ Ok y)
+pub past : {X : Type 0} (b : Bool) (f : Fault) (x : Result X Fault) (y : X) → cond b (Err f) x ≡ Ok y → (b ≡ false) × (x ≡ Ok y)
 past true f x y e = let z : _≡_ {A = ℕ} 0 1 = cc in absurd (omega arith)
 past false f x y e = (refl, e)
 
-same-answer : {X : Type 0} (x y : X) → _≡_ {A = Result X Fault} (Ok x) (Ok y) → x ≡ y
+pub same-answer : {X : Type 0} (x y : X) → _≡_ {A = Result X Fault} (Ok x) (Ok y) → x ≡ y
 same-answer x y e = cc
 
 told-from : {R : Type 0} (f : ℕ → R → Record) (x : Result (ℕ × R) Fault) (m : Message) → told f x ≡ Ok m → (p : ℕ × R) × (x ≡ Ok p) × (m ≡ Known (f (p .0) (p .1)))

@@ -24,6 +24,7 @@ use Rattle.packet.specs.declared.records.Message.the-variants.{Known}
 use Rattle.packet.specs.declared.records.Record.{Record}
 use Rattle.packet.specs.declared.records.Record.the-variants.{State, Control, EditValue, RealValue, Event, Temperature}
 use Rattle.packet.specs.declared.words.Descriptor.{Descriptor}
+use Rattle.packet.specs.Reading.{readingOf}
 use Rattle.packet.specs.Words.{major}
 
 -- ys over the bytes of xs from a place on; the others stay
@@ -139,3 +140,7 @@ lengthOf (Temperature reading) = 8
 abbrev pub laidOut : ℕ → List Record → List (ℕ × Message)
 laidOut place [] = []
 laidOut place (r ∷ rs) = (place, Known (masked r)) ∷ laidOut (place + lengthOf r) rs
+
+-- Whatever words the draft was begun with and whatever records it was given: the packet reads back as these words and all these records, in order, masked.
+abbrev pub ReadsBack : Draft → List ℕ → List ℕ → Type 0
+ReadsBack d buf packet = (w : Descriptor) (rs : List Record) → Drafting w rs d buf → readingOf packet ≡ Ok (w, laidOut 16 rs)

@@ -1,6 +1,6 @@
-use borrow.Author.Needs.{needs}
-use Rattle.kind.proofs.Words.{value-round}
+use native.Mathlib.Omega.{arith}
+use Rattle.kind.proofs.Laws.{value-lawful}
 use Rattle.kind.proofs.values.EditValueKind.the-impl.Needs as need
 
 pub lawful-law : need.lawful-law
-lawful-law = record { least = search needs; most = search needs; byte = search needs; long = search needs; round = value-round }
+lawful-law = value-lawful 0x42 (omega arith)

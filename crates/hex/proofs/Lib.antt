@@ -1,0 +1,4 @@
+pub mod Fronts
+pub mod Pairs
+pub mod Table
+pub mod Spelling

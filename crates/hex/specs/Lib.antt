@@ -1,0 +1,4 @@
+pub mod Digit
+pub mod Decoding
+pub mod Encoding
+pub mod Lines

@@ -1,0 +1,127 @@
+-- A closed draft's packet reads back as its words and its records.
+use mathlib.Core.Path.{_≡_, refl, sym, ap, ap₂, subst, _∙_}
+use mathlib.Core.Bool.{Bool, true, false, cond, not}
+use mathlib.Core.List.{List, [], _∷_, _++_}
+use Prim.Native.Nat.{ℕ, _+_, _-_, _*_, _/_, _%_, _<_, _≤_, _^_}
+use native.Mathlib.Omega.{arith}
+use lib.Dec.{eqb, ltb}
+use lib.IntN.{ℤ}
+use lib.ListN.{length, getD, take, drop}
+use Rattle.std.proofs.shelf.Lists.{append-assoc, append-nil, drop-at, joined-more, length-append, length-take-le, take-append-drop, take-append-le, take-at}
+use Rattle.std.proofs.shelf.Tests.{cond-false, eqb-true, le-ltb, ltb-false, not-false, not-from-true, or-parts}
+use Rattle.std.specs.Joined.{joined}
+use Rattle.std.specs.declared.option.Option.{Option}
+use Rattle.std.specs.declared.option.Option.the-variants.{Some, None}
+use Rattle.std.specs.declared.result.Result.{Result}
+use Rattle.std.specs.declared.result.Result.the-variants.{Ok, Err}
+use Rattle.fault.specs.declared.Fault.{Fault}
+use Rattle.kind.specs.Kinds.{control, editValue, event, realValue, state, temperature}
+use Rattle.kind.specs.Layout.{Layout, Lawful, broken, messageOf, readOf, word, wordBytes}
+use Rattle.kind.proofs.Laws.{event-lawful, flags-lawful, temperature-lawful, value-lawful}
+use Rattle.kind.proofs.Messages.{reads-back}
+use Rattle.kind.proofs.Words.{word-round}
+use Rattle.packet.specs.declared.drafting.Draft.{Draft}
+use Rattle.packet.specs.declared.records.Message.{Message}
+use Rattle.packet.specs.declared.records.Message.the-variants.{Known}
+use Rattle.packet.specs.declared.records.Record.{Record}
+use Rattle.packet.specs.declared.records.Record.the-variants.{State, Control, EditValue, RealValue, Event, Temperature}
+use Rattle.packet.specs.declared.words.Descriptor.{Descriptor}
+use Rattle.packet.specs.Drafts as drafts
+use Rattle.packet.specs.Drafts.{Drafting, ReadsBack, RecordFits, WordsFit, added, addedBytes, appended, appendedBytes, begun, begunBytes, full, laidOut, lengthOf, masked, openBytes, over, sizeOf}
+use Rattle.packet.specs.Messages as messages
+use Rattle.packet.specs.Messages.{followed, messagesOf, told}
+use Rattle.packet.specs.Reading.{readingOf}
+use Rattle.packet.specs.Words.{major}
+use Rattle.packet.proofs.Buffers.{length-message}
+use Rattle.packet.proofs.Spelling.{lists-from, not-broken, past, reading-is-grammar, same-answer}
+use Rattle.packet.proofs.Steps.{none-left, one-then}
+
+-- One record.
+
+abbrev pub recordBytes : Record → List ℕ
+recordBytes (State bits) = messageOf state 0 bits
+recordBytes (Control bits) = messageOf control 0 bits
+recordBytes (EditValue actor target) = messageOf editValue actor target
+recordBytes (RealValue actor actual) = messageOf realValue actor actual
+recordBytes (Event actor key) = messageOf event actor key
+recordBytes (Temperature reading) = messageOf temperature 0 reading
+
+-- the actor rule of its kind holds
+abbrev Admitted : Record → Type 0
+Admitted (State bits) = Unit {0}
+Admitted (Control bits) = Unit {0}
+Admitted (EditValue actor target) = editValue .admits actor ≡ true
+Admitted (RealValue actor actual) = realValue .admits actor ≡ true
+Admitted (Event actor key) = event .admits actor ≡ true
+Admitted (Temperature reading) = Unit {0}
+
+-- a written message of a kind, read by the reader of all kinds
+kind-reads : {R : Type 0} (k : Layout R) (laws : Lawful k) (f : ℕ → R → Record) (actor : ℕ) (r : R) → actor < 2 ^ 16 → k .admits actor ≡ true → k .Fits r
+    → (rest : List ℕ) (place : ℕ)
+    → (broken (messageOf k actor r ++ rest) ≡ false → messages.messageOf (messageOf k actor r ++ rest) place ≡ told f (readOf k (messageOf k actor r ++ rest) place))
+    → messages.messageOf (messageOf k actor r ++ rest) place ≡ Ok (Known (f actor (k .masked r)))
+kind-reads k laws f actor r small admitted fit rest place by =
+    let s : List ℕ = messageOf k actor r ++ rest in
+    let least = laws .least in
+    let long = length-message k laws actor r in
+    let sized : length s ≡ length (messageOf k actor r) + length rest = length-append (messageOf k actor r) rest in
+    by (not-broken s (omega arith) least (omega arith)) ∙ ap (told f) (reads-back k laws actor r rest small admitted fit place)
+
+record-reads : (r : Record) → RecordFits r → Admitted r → (rest : List ℕ) (place : ℕ) → messages.messageOf (recordBytes r ++ rest) place ≡ Ok (Known (masked r))
+record-reads (State bits) fit ok rest place = kind-reads state (flags-lawful 0x01 0x1F0F18FF (omega arith) (omega arith)) (λ _ b. State b) 0 bits (omega arith) refl tt rest place (cond-false _ _ _)
+record-reads (Control bits) fit ok rest place = kind-reads control (flags-lawful 0x21 0x1F00FFBF (omega arith) (omega arith)) (λ _ b. Control b) 0 bits (omega arith) refl tt rest place (cond-false _ _ _)
+record-reads (EditValue actor target) fit ok rest place = kind-reads editValue (value-lawful 0x42 (omega arith)) EditValue actor target (fit .0) ok (fit .1) rest place (cond-false _ _ _)
+record-reads (RealValue actor actual) fit ok rest place = kind-reads realValue (value-lawful 0x43 (omega arith)) RealValue actor actual (fit .0) ok (fit .1) rest place (cond-false _ _ _)
+record-reads (Event actor key) fit ok rest place = kind-reads event event-lawful Event actor key fit ok tt rest place (cond-false _ _ _)
+record-reads (Temperature reading) fit ok rest place = kind-reads temperature temperature-lawful (λ _ b. Temperature b) 0 reading (omega arith) refl fit rest place (cond-false _ _ _)
+
+-- its length, which is also its first byte
+record-sized : (r : Record) (rest : List ℕ) → (length (recordBytes r) ≡ lengthOf r) × (getD (recordBytes r ++ rest) 0 0 ≡ lengthOf r) × (0 < lengthOf r)
+record-sized (State bits) rest = (refl, refl, omega arith)
+record-sized (Control bits) rest = (refl, refl, omega arith)
+record-sized (EditValue actor target) rest = (refl, refl, omega arith)
+record-sized (RealValue actor actual) rest = (refl, refl, omega arith)
+record-sized (Event actor key) rest = (refl, refl, omega arith)
+record-sized (Temperature None) rest = (refl, refl, omega arith)
+record-sized (Temperature (Some z)) rest = (refl, refl, omega arith)
+
+-- All the records.
+
+abbrev Written : List Record → Type 0
+Written [] = Unit {0}
+Written (r ∷ rs) = RecordFits r × Admitted r × Written rs
+
+written-more : (rs : List Record) (r : Record) → Written rs → RecordFits r → Admitted r → Written (rs ++ (r ∷ []))
+written-more [] r w fit ok = (fit, ok, tt)
+written-more (x ∷ rs) r w fit ok = (w .0, w .1, written-more rs r (w .2) fit ok)
+
+records-read : (rs : List Record) → Written rs → (place : ℕ) → messagesOf (joined recordBytes rs) 0 place ≡ Ok (laidOut place rs)
+records-read [] w place = none-left [] place refl
+records-read (r ∷ rs) w place =
+    let rest : List ℕ = joined recordBytes rs in
+    let s : List ℕ = recordBytes r ++ rest in
+    let size = record-sized r rest in
+    let sized : length s ≡ length (recordBytes r) + length rest = length-append (recordBytes r) rest in
+    let more : messagesOf (drop (getD s 0 0) s) 0 (place + getD s 0 0) ≡ Ok (laidOut (place + lengthOf r) rs) =
+        ap (λ (n : ℕ). messagesOf (drop n s) 0 (place + n)) (size .1)
+        ∙ ap (λ (l : List ℕ). messagesOf l 0 (place + lengthOf r)) (drop-at (recordBytes r) rest (lengthOf r) (size .0))
+        ∙ records-read rs (w .2) (place + lengthOf r) in
+    one-then s place (omega arith) (omega arith)
+    ∙ ap (λ x. followed place x (messagesOf (drop (getD s 0 0) s) 0 (place + getD s 0 0))) (record-reads r (w .0) (w .1) rest place)
+    ∙ ap (followed place (Ok (Known (masked r)))) more
+
+-- The draft: what its buffer holds.
+
+pub record Holds (w : Descriptor) (rs : List Record) (d : Draft) (buf : List ℕ) : Type 0 where
+  pub fit : WordsFit w
+  pub version : major (w .version) ≡ 2
+  pub written : Written rs
+  pub size : sizeOf d ≡ 16 + length (joined recordBytes rs)
+  pub most : sizeOf d ≤ 1472
+  pub room : sizeOf d ≤ length buf
+  pub bytes : take (sizeOf d) buf ≡ openBytes w ++ joined recordBytes rs
+
+take-over : (buf ys : List ℕ) (at n : ℕ) → n ≡ at + length ys → at ≤ length buf → take n (over buf at ys) ≡ take at buf ++ ys
+take-over buf ys at n e h =
+    let long : length (take at buf ++ ys) ≡ n = length-append (take at buf) ys ∙ simp length-take-le (omega arith) in
+    ap (take n) (sym (append-assoc (take at buf) ys (drop (at + length ys) buf))) ∙ take-at (take at buf ++ ys) (drop (at + length ys) buf) n long
