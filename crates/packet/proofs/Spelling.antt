@@ -113,11 +113,11 @@ as-said : {bytes spelled : List ℕ} {m said : Message} → bytes ≡ spelled �
 as-said {spelled = spelled} {m = m} e f says = subst (λ (b : List ℕ). Says b m) (sym e) (subst (λ (x : Message). Says spelled x) (sym f) says)
 
 -- a check that was passed, where an answer came
-pub past : {X : Type 0} (b : Bool) (f : Fault) (x : Result X Fault) (y : X) → cond b (Err f) x ≡ Ok y → (b ≡ false) × (x ≡ Ok y)
+pub past : {X E : Type 0} (b : Bool) (f : E) (x : Result X E) (y : X) → cond b (Err f) x ≡ Ok y → (b ≡ false) × (x ≡ Ok y)
 past true f x y e = let z : _≡_ {A = ℕ} 0 1 = cc in absurd (omega arith)
 past false f x y e = (refl, e)
 
-pub same-answer : {X : Type 0} (x y : X) → _≡_ {A = Result X Fault} (Ok x) (Ok y) → x ≡ y
+pub same-answer : {X E : Type 0} (x y : X) → _≡_ {A = Result X E} (Ok x) (Ok y) → x ≡ y
 same-answer x y e = cc
 
 told-from : {R : Type 0} (f : ℕ → R → Record) (x : Result (ℕ × R) Fault) (m : Message) → told f x ≡ Ok m → (p : ℕ × R) × (x ≡ Ok p) × (m ≡ Known (f (p .0) (p .1)))

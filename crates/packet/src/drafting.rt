@@ -7,7 +7,7 @@ ghost use lib.ListN.{length, take};
 ghost use Rattle.std.specs.Vec.{made};
 ghost use Rattle.std.specs.declared.result.Result.the-variants.{Ok};
 ghost use Rattle.kind.specs.Layout.{messageOf, wordBytes};
-ghost use Rattle.packet.specs.Drafts.{added, addedBytes, appended, appendedBytes, begun, begunBytes, closed, closedBytes, full, openBytes, over, sizeOf};
+ghost use Rattle.packet.specs.Drafts.{ReadsBack, added, addedBytes, appended, appendedBytes, begun, begunBytes, closed, closedBytes, full, openBytes, over, sizeOf};
 use crate::records::Record;
 use crate::words::DESCRIPTOR_LEN;
 use crate::words::Descriptor;
@@ -18,7 +18,19 @@ use fault::CallFault;
 use fault::Fault;
 use fault::FrameFault;
 use fault::MessageFault;
+use kind::Control;
+use kind::ControlKind;
+use kind::EditValue;
+use kind::EditValueKind;
+use kind::Event;
+use kind::EventKind;
 use kind::Kind;
+use kind::RealValue;
+use kind::RealValueKind;
+use kind::State;
+use kind::StateKind;
+use kind::Temperature;
+use kind::TemperatureKind;
 
 // A packet that still takes records; only their bytes are counted, since the caller has the buffer.
 #[derive(Drop)]
@@ -91,6 +103,16 @@ fn is_full(behind: usize, more: u8, buf: &[u8]) -> bool
         || more as usize > room - DESCRIPTOR_LEN - behind
 }
 
+// Fills in the FrameLength of a draft of so many bytes behind the descriptor.
+fn fill_length(buf: &mut [u8], behind: usize)
+    requires { ⌜ 16 + behind ≤ length (now buf) ⌝ ∗ ⌜ 16 + behind ≤ 1472 ⌝ }
+    ensures bytes { λ _. ⌜ now (buf .exit) ≡ over (now (buf .entry)) 2 (wordBytes (16 + behind)) ⌝ }
+    ensures back { λ _. ⌜ ReadsBack (record { behind = behind }) (now (buf .entry)) (take (16 + behind) (now (buf .exit))) ⌝ }
+{
+    let length = (DESCRIPTOR_LEN + behind) as u16;
+    buf[2..4].copy_from_slice(&length.to_le_bytes());
+}
+
 impl Draft {
     // Begins a packet with these words, and writes its descriptor.
     pub fn begin(buf: &mut [u8], words: Descriptor) -> Result<Draft, Fault>
@@ -128,5 +150,44 @@ impl Draft {
         Ok(Draft {
             behind: behind + K::message_len() as usize,
         })
+    }
+    // Adds a record, whatever its kind.
+    pub fn add(self, buf: &mut [u8], record: Record) -> Result<Draft, (Fault, Draft)>
+        ensures answer { λ r. ⌜ r ≡ added «record» self (now (buf .entry)) ⌝ }
+        ensures bytes { λ _. ⌜ now (buf .exit) ≡ addedBytes «record» self (now (buf .entry)) ⌝ }
+    {
+        match record {
+            Record::State(flags) => self.append::<State>(buf, 0, flags),
+            Record::Control(word) => self.append::<Control>(buf, 0, word),
+            Record::EditValue { actor, target } => self.append::<EditValue>(buf, actor, target),
+            Record::RealValue { actor, actual } => self.append::<RealValue>(buf, actor, actual),
+            Record::Event { actor, key } => self.append::<Event>(buf, actor, key),
+            Record::Temperature(reading) => self.append::<Temperature>(buf, 0, reading),
+        }
+    }
+
+    // Closes the packet, which fills in its FrameLength. A refusal gives the draft back, and nothing is written.
+    pub fn close(self, buf: &mut [u8]) -> Result<Closed, (Fault, Draft)>
+        ensures answer { λ r. ⌜ r ≡ closed self (now (buf .entry)) ⌝ }
+        ensures bytes { λ _. ⌜ now (buf .exit) ≡ closedBytes self (now (buf .entry)) ⌝ }
+        ensures back { λ r. ⌜ made r (λ c. ReadsBack self (now (buf .entry)) (take (c .length) (now (buf .exit)))) ⌝ }
+    {
+        let Draft { behind } = self;
+        if is_full(behind, 0, buf) {
+            return Err((Fault::Call(CallFault::ShortBuffer, 0), Draft { behind }));
+        }
+        fill_length(buf, behind);
+        Ok(Closed {
+            length: DESCRIPTOR_LEN + behind,
+        })
+    }
+}
+
+impl Closed {
+    // How many bytes of the buffer are the packet.
+    pub fn length(&self) -> usize
+        ensures { λ r. ⌜ r ≡ now (self .entry) .length ⌝ }
+    {
+        self.length
     }
 }
