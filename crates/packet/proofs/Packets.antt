@@ -28,6 +28,7 @@ use Rattle.packet.specs.declared.records.Record.the-variants.{State, Control, 
 use Rattle.packet.specs.declared.words.Descriptor.{Descriptor}
 use Rattle.packet.specs.Drafts as drafts
 use Rattle.packet.specs.Drafts.{Drafting, ReadsBack, RecordFits, WordsFit, added, addedBytes, appended, appendedBytes, begun, begunBytes, full, laidOut, lengthOf, masked, openBytes, over, sizeOf}
+use Rattle.packet.specs.Packets.{headBytes, packetBytes, recordBytes}
 use Rattle.packet.specs.Messages as messages
 use Rattle.packet.specs.Messages.{followed, messagesOf, told}
 use Rattle.packet.specs.Reading.{readingOf}
@@ -38,16 +39,8 @@ use Rattle.packet.proofs.Steps.{none-left, one-then}
 
 -- One record.
 
-abbrev pub recordBytes : Record → List ℕ
-recordBytes (State bits) = messageOf state 0 bits
-recordBytes (Control bits) = messageOf control 0 bits
-recordBytes (EditValue actor target) = messageOf editValue actor target
-recordBytes (RealValue actor actual) = messageOf realValue actor actual
-recordBytes (Event actor key) = messageOf event actor key
-recordBytes (Temperature reading) = messageOf temperature 0 reading
-
 -- the actor rule of its kind holds
-abbrev Admitted : Record → Type 0
+abbrev pub Admitted : Record → Type 0
 Admitted (State bits) = Unit {0}
 Admitted (Control bits) = Unit {0}
 Admitted (EditValue actor target) = editValue .admits actor ≡ true
@@ -87,7 +80,7 @@ record-sized (Temperature (Some z)) rest = (refl, refl, omega arith)
 
 -- All the records.
 
-abbrev Written : List Record → Type 0
+abbrev pub Written : List Record → Type 0
 Written [] = Unit {0}
 Written (r ∷ rs) = RecordFits r × Admitted r × Written rs
 
@@ -196,23 +189,20 @@ drafting-holds _ _ _ _ (drafts.Drafting.adds w rs d buf r e drafting fit h) = ad
 
 -- The packet: the descriptor with its FrameLength, and the records.
 
-abbrev packetBytes : Descriptor → ℕ → List ℕ → List ℕ
-packetBytes w size body =
-    wordBytes 0x8601 ++ (wordBytes size ++ (wordBytes (w .version) ++ (wordBytes (w .number)
-    ++ (wordBytes (w .project) ++ (wordBytes (w .firmware) ++ (wordBytes (w .switch) ++ (wordBytes (w .design) ++ body)))))))
-
 -- filling in the length of a draft, whatever lies behind it
 filled-in : (w : Descriptor) (body buf : List ℕ) (size : ℕ) → size ≡ 16 + length body → size ≤ length buf → take size buf ≡ openBytes w ++ body
-    → take size (over buf 2 (wordBytes size)) ≡ packetBytes w size body
+    → take size (over buf 2 (wordBytes size)) ≡ headBytes w size ++ body
 filled-in w body buf size e room bytes =
     let whole : buf ≡ (openBytes w ++ body) ++ drop size buf = sym (take-append-drop size buf) ∙ ap (λ (l : List ℕ). l ++ drop size buf) bytes in
-    ap (λ (l : List ℕ). take size (over l 2 (wordBytes size))) whole ∙ take-at (packetBytes w size body) (drop size buf) size (omega arith)
+    ap (λ (l : List ℕ). take size (over l 2 (wordBytes size))) whole ∙ take-at (headBytes w size ++ body) (drop size buf) size (omega arith)
 
-packet-reads : (w : Descriptor) (rs : List Record) (size : ℕ) → WordsFit w → major (w .version) ≡ 2 → Written rs → size ≡ 16 + length (joined recordBytes rs) → size ≤ 1472
-    → readingOf (packetBytes w size (joined recordBytes rs)) ≡ Ok (w, laidOut 16 rs)
-packet-reads w rs size fit version written e most =
+-- the bytes of a packet read back as its words and records
+pub packet-reads : (w : Descriptor) (rs : List Record) → WordsFit w → major (w .version) ≡ 2 → Written rs → 16 + length (joined recordBytes rs) ≤ 1472
+    → readingOf (packetBytes w rs) ≡ Ok (w, laidOut 16 rs)
+packet-reads w rs fit version written most =
     let body : List ℕ = joined recordBytes rs in
-    reading-is-grammar (packetBytes w size body) .accepted w (laidOut 16 rs) (record {
+    let size : ℕ = 16 + length body in
+    reading-is-grammar (packetBytes w rs) .accepted w (laidOut 16 rs) (record {
       least = omega arith;
       most = omega arith;
       frameId = refl;
@@ -230,4 +220,8 @@ packet-reads w rs size fit version written e most =
 pub packet-back : (d : Draft) (buf : List ℕ) → ReadsBack d buf (take (sizeOf d) (over buf 2 (wordBytes (sizeOf d))))
 packet-back d buf w rs drafting =
     let h = drafting-holds w rs d buf drafting in
-    ap readingOf (filled-in w (joined recordBytes rs) buf (sizeOf d) (h .size) (h .room) (h .bytes)) ∙ packet-reads w rs (sizeOf d) (h .fit) (h .version) (h .written) (h .size) (h .most)
+    let most = h .most in
+    let size = h .size in
+    let same : take (sizeOf d) (over buf 2 (wordBytes (sizeOf d))) ≡ packetBytes w rs =
+    filled-in w (joined recordBytes rs) buf (sizeOf d) size (h .room) (h .bytes) ∙ ap (λ (n : ℕ). headBytes w n ++ joined recordBytes rs) size in
+    (same, ap readingOf same ∙ packet-reads w rs (h .fit) (h .version) (h .written) (omega arith))

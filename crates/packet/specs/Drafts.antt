@@ -24,6 +24,7 @@ use Rattle.packet.specs.declared.records.Message.the-variants.{Known}
 use Rattle.packet.specs.declared.records.Record.{Record}
 use Rattle.packet.specs.declared.records.Record.the-variants.{State, Control, EditValue, RealValue, Event, Temperature}
 use Rattle.packet.specs.declared.words.Descriptor.{Descriptor}
+use Rattle.packet.specs.Packets.{headBytes, packetBytes}
 use Rattle.packet.specs.Reading.{readingOf}
 use Rattle.packet.specs.Words.{major}
 
@@ -41,9 +42,7 @@ full d more buf = ltb 1472 (sizeOf d + more) || ltb (length buf) (sizeOf d + mor
 
 -- the sixteen bytes of a descriptor whose FrameLength is not filled in yet
 abbrev pub openBytes : Descriptor → List ℕ
-openBytes w =
-    wordBytes 0x8601 ++ (wordBytes 0 ++ (wordBytes (w .version) ++ (wordBytes (w .number)
-    ++ (wordBytes (w .project) ++ (wordBytes (w .firmware) ++ (wordBytes (w .switch) ++ wordBytes (w .design)))))))
+openBytes w = headBytes w 0
 
 -- Beginning: the major version first, then the room.
 abbrev pub begun : Descriptor → List ℕ → Result Draft Fault
@@ -141,6 +140,7 @@ abbrev pub laidOut : ℕ → List Record → List (ℕ × Message)
 laidOut place [] = []
 laidOut place (r ∷ rs) = (place, Known (masked r)) ∷ laidOut (place + lengthOf r) rs
 
--- Whatever words the draft was begun with and whatever records it was given: the packet reads back as these words and all these records, in order, masked.
+-- Whatever words the draft was begun with and whatever records it was given: the packet is theirs, and reads back as these words and all these
+-- records, in order, masked.
 abbrev pub ReadsBack : Draft → List ℕ → List ℕ → Type 0
-ReadsBack d buf packet = (w : Descriptor) (rs : List Record) → Drafting w rs d buf → readingOf packet ≡ Ok (w, laidOut 16 rs)
+ReadsBack d buf packet = (w : Descriptor) (rs : List Record) → Drafting w rs d buf → (packet ≡ packetBytes w rs) × (readingOf packet ≡ Ok (w, laidOut 16 rs))

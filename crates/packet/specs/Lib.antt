@@ -3,4 +3,5 @@ pub mod Messages
 pub mod Reading
 pub mod Grammar
 pub mod Walking
+pub mod Packets
 pub mod Drafts
