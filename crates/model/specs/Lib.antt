@@ -1,0 +1,7 @@
+pub mod Marks
+pub mod Models
+pub mod Opening
+pub mod Settings
+pub mod Taking
+pub mod Composing
+pub mod Questions

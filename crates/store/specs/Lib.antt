@@ -1,0 +1,4 @@
+pub mod Meaning
+pub mod Records
+pub mod Tables
+pub mod Lists
