@@ -1,0 +1,1 @@
+// The law of truthful switches: its statement stands in specs/, its proof in proofs/. Nothing runs here.
