@@ -62,13 +62,16 @@ changeSwitch id f h = withSwitches (atSwitch id f (h .switches)) h
 
 -- Whether a switch lists an actor, and the mark that it has there.
 
+abbrev pub isActor : ℕ → Item → Bool
+isActor a x = eqb (x .actor) a
+
 abbrev pub listsActor : ℕ → List Item → Bool
 listsActor a [] = false
-listsActor a (x ∷ xs) = eqb (x .actor) a || listsActor a xs
+listsActor a (x ∷ xs) = isActor a x || listsActor a xs
 
 abbrev pub markOfActor : ℕ → List Item → Option Mark
 markOfActor a [] = None
-markOfActor a (x ∷ xs) = cond (eqb (x .actor) a) (Some (x .mark)) (markOfActor a xs)
+markOfActor a (x ∷ xs) = cond (isActor a x) (Some (x .mark)) (markOfActor a xs)
 
 abbrev pub anyOutstanding : List Item → Bool
 anyOutstanding [] = false
@@ -83,7 +86,7 @@ abbrev pub movedItem : Change → Item → Item
 movedItem c x = record { actor = x .actor; mark = moved (x .mark) c }
 
 abbrev pub touchedItem : ℕ → Item → Item
-touchedItem a x = cond (eqb (x .actor) a) (movedItem Changed x) x
+touchedItem a x = cond (isActor a x) (movedItem Changed x) x
 
 -- an actor becomes due, where the switch lists it
 abbrev pub touched : ℕ → SwitchModel → SwitchModel
