@@ -32,6 +32,9 @@ pub record HubModel : Type 0 where
   pub switches : List SwitchModel
   pub store : Known
 
+abbrev pub switchesOf : HubModel → List SwitchModel
+switchesOf h = h .switches
+
 -- A step answers and leaves a hub, or refuses and leaves it as it was.
 abbrev pub Step : Type 0 → Type 0
 Step A = Result (A × HubModel) Fault

@@ -1,5 +1,6 @@
 // What a switch can be asked, and how one begins.
 ghost use mathlib.Core.Bool.{cond};
+ghost use mathlib.Core.List.{[]};
 ghost use mathlib.Core.Path.{_≡_};
 ghost use Prim.Native.Nat.{_≤_};
 ghost use lib.Dec.{ltb};
@@ -58,6 +59,13 @@ fn enrolled(id: u16, actors: &[u16]) -> Switch
 }
 
 impl Switch {
+    // A switch that lists nothing, for the room that no switch has taken yet.
+    pub fn blank() -> Switch
+        ensures { λ r. ⌜ switchModel r ≡ newSwitch 0 [] ⌝ }
+    {
+        enrolled(0, &[])
+    }
+
     // A switch with this list, if it has room for it.
     pub fn new(id: u16, actors: &[u16]) -> Option<Switch>
         ensures { λ r. ⌜ mapped switchModel r ≡ cond (ltb 64 (length (now (actors .entry)))) None (Some (newSwitch id (now (actors .entry)))) ⌝ }

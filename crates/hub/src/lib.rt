@@ -1,0 +1,9 @@
+// The hub: the controller's end of the line, over any actor store.
+mod enrolment;
+mod memory;
+mod opening;
+mod questions;
+mod row;
+mod settings;
+
+pub use memory::Hub;

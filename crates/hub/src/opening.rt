@@ -1,0 +1,32 @@
+// Opening a hub.
+ghost use mathlib.Core.Path.{_≡_};
+ghost use Rattle.model.specs.Opening.{opened};
+ghost use Rattle.hub.specs.Memory.{handedBack, seen};
+use crate::memory::Hub;
+use fault::Fault;
+use fault::FrameFault;
+use model::Site;
+use packet::MAJOR_VERSION;
+use store::meaning::ActorStore;
+use switch::Switch;
+
+// How many switches a hub serves at most.
+pub const MOST_SWITCHES: usize = 32;
+
+impl<S: ActorStore> Hub<S> {
+    // A hub with no switch over the store; the store comes back where the version is not ours.
+    pub fn open(store: S, site: Site) -> Result<Hub<S>, (Fault, S)>
+        ensures { λ r. ⌜ seen (S·ActorStore .meaning) r ≡ handedBack store (opened site (S·ActorStore .meaning store)) ⌝ }
+    {
+        let [_, major] = site.version.to_le_bytes();
+        if major != MAJOR_VERSION {
+            return Err((Fault::Frame(FrameFault::MajorVersion, 0), store));
+        }
+        Ok(Hub {
+            site,
+            switches: [Switch::blank(); MOST_SWITCHES],
+            count: 0,
+            store,
+        })
+    }
+}
