@@ -5,5 +5,6 @@ mod opening;
 mod questions;
 mod row;
 mod settings;
+mod taking;
 
 pub use memory::Hub;

@@ -4,3 +4,4 @@ pub mod LawfulRecords
 pub mod Shifts
 pub mod Entries
 pub mod Rows
+pub mod ListRules

@@ -4,7 +4,7 @@ use mathlib.Core.Bool.{true, false, cond}
 use Prim.Native.Nat.{ℕ}
 use lib.Dec.{eqb}
 use lib.IntN.{ℤ}
-use Rattle.std.specs.declared.option.Option.the-variants.{Some, None}
+use Rattle.std.specs.declared.option.Option.the-variants.{Some}
 use Rattle.std.proofs.shelf.Tests.{eqb-true, eq-eqb, cond-both, cond-true, cond-false, and-parts, and-from}
 use Rattle.store.specs.Meaning.{Known, pairAfter, afterPut, forbidden, lawful, lawfulPair, replaced}
 use Rattle.store.specs.declared.meaning.Half.{Half}

@@ -1,10 +1,12 @@
 -- The list that a table is opened over: what is wrong with it, and what the table then means.
+use mathlib.Core.Path.{_≡_}
+use mathlib.Core.Logic.{_⊎_}
 use mathlib.Core.List.{List, [], _∷_, _++_}
 use mathlib.Core.Bool.{Bool, false, cond, _||_}
-use Prim.Native.Nat.{ℕ, _+_}
+use Prim.Native.Nat.{ℕ, _+_, _<_, _≤_}
 use lib.Dec.{eqb, ltb}
 use lib.IntN.{pos}
-use lib.ListN.{length}
+use lib.ListN.{length, getD}
 use Rattle.std.specs.declared.option.Option.{Option}
 use Rattle.std.specs.declared.option.Option.the-variants.{Some, None}
 use Rattle.std.specs.declared.result.Result.{Result}
@@ -31,6 +33,24 @@ listFault list = cond (eqb (length list) 0 || ltb 256 (length list)) (Some (Stor
 -- the listed actors, all values 0
 abbrev pub zeros : List ℕ → Known
 zeros list a = cond (lists list a) (Some (pos 0, pos 0)) None
+
+-- the entry at i is zero or equal to an earlier one
+abbrev pub Spoilt : List ℕ → ℕ → Type 0
+Spoilt list i = (getD list i 0 ≡ 0) ⊎ ((j : ℕ) × (j < i) × (getD list j 0 ≡ getD list i 0))
+
+abbrev pub FirstSpoilt : List ℕ → ℕ → Type 0
+FirstSpoilt list i = (i < length list) × Spoilt list i × ((j : ℕ) → j < i → Spoilt list j → ⊥)
+
+pub record LawfulList (list : List ℕ) : Type 0 where
+  pub some : 1 ≤ length list
+  pub few : length list ≤ 256
+  pub whole : (i : ℕ) → i < length list → Spoilt list i → ⊥
+
+-- exactly the lawful lists have no fault, and a fault of an entry tells the first spoilt one
+pub record ListRule (list : List ℕ) : Type 0 where
+  pub sound : listFault list ≡ None → LawfulList list
+  pub complete : LawfulList list → listFault list ≡ None
+  pub first : (i : ℕ) → listFault list ≡ Some (Store store.ListEntry i) → FirstSpoilt list i
 
 abbrev pub unless : {A : Type 0} → Option Fault → A → Result A Fault
 unless None x = Ok x

@@ -16,7 +16,7 @@ use Rattle.store.specs.declared.meaning.Half.the-variants.{Actual, Target}
 abbrev pub Known : Type 0
 Known = ℕ → Option (ℤ × ℤ)
 
--- values run from −32,767, which is `negsuc 32766`, to 32,766
+-- the least value is −32,767, which is `negsuc 32766`, and the greatest 32,766
 abbrev pub forbidden : ℤ → Bool
 forbidden (pos n) = ltb 32766 n
 forbidden (negsuc n) = ltb 32766 n
@@ -66,7 +66,7 @@ pairAfter None bad h v = None
 pairAfter (Some p) true h v = Some p
 pairAfter (Some p) false h v = Some (replaced h v p)
 
--- a put replaces one value of one known actor and nothing else; refused, it changes nothing
+-- after a put the map differs in one half of the actor's pair; after a refusal, nowhere
 abbrev pub afterPut : Known → ℕ → Half → ℤ → Known
 afterPut m a h v k = cond (eqb k a) (pairAfter (m k) (forbidden v) h v) (m k)
 
@@ -79,7 +79,7 @@ pairBack (Some p) false h v = Ok (replaced h v p)
 abbrev pub readBack : Known → ℕ → Half → ℤ → Result (ℤ × ℤ) Fault
 readBack m a h v = pairBack (m a) (forbidden v) h v
 
--- the answer of an opening, by what the store that it gives means
+-- the answer of an opening, by what it gives
 abbrev pub meant : {A B : Type 0} → (A → B) → Result A Fault → Result B Fault
 meant f (Ok x) = Ok (f x)
 meant f (Err e) = Err e

@@ -12,17 +12,17 @@ pub enum Half {
     Target,
 }
 
-// A set of known actors, fixed at opening, with an actual and a target value for each.
+// What the hub needs of a store: the actors that it was opened with, and both values of each.
 pub trait ActorStore {
     ghost meaning: { Self → Known };
 
     law lawful: { (s : Self) (a : ℕ) → lawfulPair (meaning s a) ≡ true };
 
-    // Both values of a known actor.
+    // Both values of an actor, actual and target; refuses an unknown actor (11).
     fn read(&self, actor: u16) -> Result<(i16, i16), Fault>
         ensures { λ r. ⌜ r ≡ readAnswer (meaning (now (self .entry))) actor ⌝ };
 
-    // Replaces one value of one known actor.
+    // Replaces one value of one actor; refuses an unknown actor (11), then a forbidden value (12).
     fn put(&mut self, actor: u16, half: Half, value: i16) -> Result<(), Fault>
         ensures answer { λ r. ⌜ r ≡ putAnswer (meaning (now (self .entry))) actor value ⌝ }
         ensures after { λ _. ⌜ meaning (now (self .exit)) ≡ afterPut (meaning (now (self .entry))) actor half value ⌝ };
