@@ -1,5 +1,5 @@
 // Enrolling a switch.
-ghost use mathlib.Core.Bool.{_||_};
+ghost use mathlib.Core.Bool.{_||_, false};
 ghost use mathlib.Core.List.{[], _∷_, _++_};
 ghost use mathlib.Core.Path.{_≡_};
 ghost use Prim.Native.Nat.{_≤_, _<_};
@@ -20,23 +20,11 @@ use store::meaning::ActorStore;
 use switch::MOST_ACTORS;
 use switch::Switch;
 
-// Whether an actor stands in a list.
-fn stands_in(list: &[u16], actor: u16) -> bool
-    ensures { λ r. ⌜ r ≡ lists (now (list .entry)) actor ⌝ }
-{
-    for entry in list {
-        if *entry == actor {
-            return true;
-        }
-    }
-    false
-}
-
 // Whether an entry is zero, or repeats one before it.
 fn is_unfit(before: &[u16], actor: u16) -> bool
     ensures { λ r. ⌜ r ≡ (eqb actor 0 || lists (now (before .entry)) actor) ⌝ }
 {
-    actor == 0 || stands_in(before, actor)
+    actor == 0 || switch::stands_in(before, actor)
 }
 
 fn is_known<S: ActorStore>(store: &S, actor: u16) -> bool
@@ -47,7 +35,8 @@ fn is_known<S: ActorStore>(store: &S, actor: u16) -> bool
 
 // Checks entry by entry that each stands there once and is known to the store.
 fn check_entries<S: ActorStore>(store: &S, actors: &[u16]) -> Result<(), Fault>
-    ensures { λ r. ⌜ r ≡ unless (entryFault (S·ActorStore .meaning (now (store .entry))) [] 0 (now (actors .entry))) tt ⌝ }
+    ensures answer { λ r. ⌜ r ≡ unless (entryFault (S·ActorStore .meaning (now (store .entry))) [] 0 (now (actors .entry))) tt ⌝ }
+    ensures named { λ r. ⌜ made r (λ _. lists (now (actors .entry)) 0 ≡ false) ⌝ }
 {
     for i in 0..actors.len() {
         let actor = actors[i];
@@ -72,7 +61,7 @@ impl<S: ActorStore> Hub<S> {
     // Whether such a switch may be enrolled.
     fn may_enrol(&self, id: u16, actors: &[u16]) -> Result<(), Fault>
         ensures answer { λ r. ⌜ r ≡ unless (enrolFault (hubModel (S·ActorStore .meaning) (now (self .entry))) id (now (actors .entry))) tt ⌝ }
-        ensures room { λ r. ⌜ made r (λ _. (now (self .entry) .count < 32) × (length (now (actors .entry)) ≤ 64)) ⌝ }
+        ensures room { λ r. ⌜ made r (λ _. (now (self .entry) .count < 32) × (length (now (actors .entry)) ≤ 64) × (lists (now (actors .entry)) 0 ≡ false)) ⌝ }
     {
         if id == 0 || self.find(id).is_some() {
             return Err(Fault::Call(CallFault::SwitchTaken, 0));
@@ -88,7 +77,7 @@ impl<S: ActorStore> Hub<S> {
 
     // Puts a switch behind the others.
     fn add(&mut self, id: u16, actors: &[u16])
-        requires { ⌜ now self .count < 32 ⌝ ∗ ⌜ length (now actors) ≤ 64 ⌝ }
+        requires { ⌜ now self .count < 32 ⌝ ∗ ⌜ length (now actors) ≤ 64 ⌝ ∗ ⌜ lists (now actors) 0 ≡ false ⌝ }
         ensures { λ _. ⌜ hubModel (S·ActorStore .meaning) (now (self .exit)) ≡ withSwitches (switchesOf (hubModel (S·ActorStore .meaning) (now (self .entry))) ++ newSwitch id (now (actors .entry)) ∷ []) (hubModel (S·ActorStore .meaning) (now (self .entry))) ⌝ }
     {
         if let Some(switch) = Switch::new(id, actors) {

@@ -1,10 +1,13 @@
 // The hub: the controller's end of the line, over any actor store.
 mod enrolment;
+mod handing_in;
 mod memory;
 mod opening;
 mod questions;
 mod row;
 mod settings;
+mod slip;
 mod taking;
 
 pub use memory::Hub;
+pub use slip::Slip;

@@ -2,13 +2,11 @@
 use Prim.Native.Nat.{ℕ, _+_, _<_, _^_}
 use mathlib.Core.Path.{_≡_}
 use mathlib.Core.Logic.{_⊎_}
-use mathlib.Core.Bool.{Bool, true, false}
+use mathlib.Core.Bool.{true, false}
 use mathlib.Core.List.{List, [], _∷_, _++_}
-use lib.IntN.{ℤ}
 use lib.ListN.{take}
-use Rattle.std.specs.declared.option.Option.{Option}
 use Rattle.std.specs.declared.option.Option.the-variants.{Some, None}
-use Rattle.std.specs.declared.result.Result.the-variants.{Ok, Err}
+use Rattle.std.specs.declared.result.Result.the-variants.{Ok}
 use Rattle.packet.specs.declared.records.Message.{Message}
 use Rattle.packet.specs.declared.words.Descriptor.{Descriptor}
 use Rattle.store.specs.declared.meaning.Half.the-variants.{Actual, Target}
@@ -23,9 +21,9 @@ use Rattle.model.specs.Models.{HubModel, SwitchModel, findSwitch, listsActor}
 use Rattle.model.specs.Opening.{newHub}
 use Rattle.model.specs.Questions.{actorMark, outstandingAt}
 use Rattle.model.specs.Taking.{takePayload}
-use Rattle.law.specs.Values.{Any, Edits, Inits, Slot, lastAccepted, slot, spoken}
+use Rattle.law.specs.Values.{Any, Edits, Inits, lastAccepted, slot, spoken}
 use Rattle.law.specs.World as world
-use Rattle.law.specs.World.{About, Act, Call, End, Move, Packet, Payload, Run, World, answerTo, issued, packetNow, restart, turn, turnOf, withEnd, withHub, withLineTo}
+use Rattle.law.specs.World.{Act, End, Move, Payload, Run, World, answerTo, issued, packetNow, restart, turn, turnOf, withEnd, withHub, withLineTo}
 
 -- At the opening no switch is enrolled, every line is empty, and no switch shows anything.
 abbrev pub silentEnd : End
@@ -122,6 +120,13 @@ Settling site st =
     → u .ends s .lineFrom ≡ p ∷ rest → p .about ≡ answerTo (w .ends s .lineTo .composed) → spoken (p .bytes) ≡ Some (d, ms) → d .switch ≡ s
     → (told : Arrival) (count : ℕ) (k : HubModel) → takePayload (u .hub) (p .bytes) ≡ Ok ((told, count), k)
     → outstandingAt k s ≡ Ok false
+
+-- The words that a hub is opened with are words of 16 bits.
+pub record SiteFits (site : Site) : Type 0 where
+  pub version : site .version < 2 ^ 16
+  pub project : site .project < 2 ^ 16
+  pub firmware : site .firmware < 2 ^ 16
+  pub design : site .design < 2 ^ 16
 
 -- The law, whole, of a hub that is opened with these words over a store with this meaning.
 unfoldable pub TruthfulSwitches : Site → store.Known → Type 0

@@ -1,14 +1,13 @@
 -- One hub, its switches and the lines between them: everything that can happen, one move at a time.
 use Prim.Native.Nat.{ℕ, suc, _+_, _<_, _^_}
 use mathlib.Core.Path.{_≡_}
-use mathlib.Core.Bool.{Bool, true, false, cond}
+use mathlib.Core.Bool.{true, cond}
 use mathlib.Core.List.{List, [], _∷_, _++_}
 use lib.Dec.{eqb}
 use lib.IntN.{ℤ}
 use lib.ListN.{length, take}
 use Rattle.std.specs.declared.option.Option.{Option}
 use Rattle.std.specs.declared.option.Option.the-variants.{Some, None}
-use Rattle.std.specs.declared.result.Result.{Result}
 use Rattle.std.specs.declared.result.Result.the-variants.{Ok, Err}
 use Rattle.fault.specs.declared.Fault.{Fault}
 use Rattle.packet.specs.declared.records.Message.{Message}
@@ -26,7 +25,7 @@ use Rattle.model.specs.Models.{HubModel, hubAfter}
 use Rattle.model.specs.Opening.{enrol}
 use Rattle.model.specs.Settings.{setControl, setValue}
 use Rattle.model.specs.Taking.{takePayload}
-use Rattle.law.specs.Values.{All, Any, Edits, Inits, Slot, broughtBy, noteAll, sameSlot, showAll, slot, spoken}
+use Rattle.law.specs.Values.{All, Any, Slot, broughtBy, noteAll, sameSlot, showAll, slot, spoken}
 
 -- A packet for a switch: how many were composed for that switch before it, how many values had been accepted at its compose, and its bytes.
 pub record Packet : Type 0 where

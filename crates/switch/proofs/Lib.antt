@@ -1,3 +1,4 @@
 pub mod Maps
 pub mod Searches
 pub mod Rows
+pub mod Named

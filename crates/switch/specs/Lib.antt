@@ -1,3 +1,4 @@
+pub mod Items
 pub mod Memory
 pub mod Steps
 pub mod Places

@@ -1,5 +1,5 @@
 // What a switch can be asked, and how one begins.
-ghost use mathlib.Core.Bool.{cond};
+ghost use mathlib.Core.Bool.{_||_, cond, false, true};
 ghost use mathlib.Core.List.{[]};
 ghost use mathlib.Core.Path.{_≡_};
 ghost use Prim.Native.Nat.{_≤_};
@@ -7,9 +7,11 @@ ghost use lib.Dec.{ltb};
 ghost use lib.ListN.{length};
 ghost use Rattle.std.specs.Options.{mapped};
 ghost use Rattle.std.specs.declared.option.Option.the-variants.{None, Some};
-ghost use Rattle.model.specs.Composing.{hasOutstanding};
+ghost use Rattle.model.specs.Composing.{hasOutstanding, outstandingActors};
 ghost use Rattle.model.specs.Models.{listsActor, markOfActor};
 ghost use Rattle.model.specs.Opening.{newSwitch};
+ghost use Rattle.store.specs.Lists.{lists};
+ghost use Rattle.switch.specs.Items.{allNamed};
 ghost use Rattle.switch.specs.Memory.{itemsIn, switchModel};
 use crate::items;
 use crate::memory::Switch;
@@ -24,9 +26,21 @@ pub const MOST_ACTORS: usize = 64;
 // The control word that a switch begins with.
 const FIRST_CONTROL: u32 = 0x0000_0130;
 
+// Whether an actor stands in a list.
+pub fn stands_in(list: &[u16], actor: u16) -> bool
+    ensures { λ r. ⌜ r ≡ lists (now (list .entry)) actor ⌝ }
+{
+    for entry in list {
+        if *entry == actor {
+            return true;
+        }
+    }
+    false
+}
+
 // A switch as it is enrolled, with every item due.
 fn enrolled(id: u16, actors: &[u16]) -> Switch
-    requires { ⌜ length (now actors) ≤ 64 ⌝ }
+    requires { ⌜ length (now actors) ≤ 64 ⌝ ∗ ⌜ lists (now actors) 0 ≡ false ⌝ }
     ensures { λ r. ⌜ switchModel r ≡ newSwitch id (now (actors .entry)) ⌝ }
 {
     let mut items = [Item {
@@ -66,14 +80,37 @@ impl Switch {
         enrolled(0, &[])
     }
 
-    // A switch with this list, if it has room for it.
+    // A switch with this list, if it has room for it and every entry names an actor.
     pub fn new(id: u16, actors: &[u16]) -> Option<Switch>
-        ensures { λ r. ⌜ mapped switchModel r ≡ cond (ltb 64 (length (now (actors .entry)))) None (Some (newSwitch id (now (actors .entry)))) ⌝ }
+        ensures { λ r. ⌜ mapped switchModel r ≡ cond (ltb 64 (length (now (actors .entry))) || lists (now (actors .entry)) 0) None (Some (newSwitch id (now (actors .entry)))) ⌝ }
     {
-        if actors.len() > MOST_ACTORS {
+        if actors.len() > MOST_ACTORS || stands_in(actors, 0) {
             return None;
         }
         Some(enrolled(id, actors))
+    }
+
+    // The items in use, in list order.
+    pub fn items(&self) -> &[Item]
+        ensures items { λ r. ⌜ now r ≡ switchModel (now (self .entry)) .items ⌝ }
+        ensures named { λ r. ⌜ allNamed (now r) ≡ true ⌝ }
+        ensures few { λ r. ⌜ length (now r) ≤ 64 ⌝ }
+    {
+        &self.items[0..self.count]
+    }
+
+    pub fn control(&self) -> u32
+        ensures { λ r. ⌜ r ≡ switchModel (now (self .entry)) .control ⌝ }
+    {
+        self.control
+    }
+
+    // How many actors are outstanding.
+    pub fn outstanding_actors(&self) -> usize
+        ensures answer { λ r. ⌜ r ≡ outstandingActors (switchModel (now (self .entry)) .items) ⌝ }
+        ensures few { λ r. ⌜ r ≤ 64 ⌝ }
+    {
+        items::count_outstanding(&self.items[0..self.count])
     }
 
     pub fn id(&self) -> u16

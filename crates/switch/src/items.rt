@@ -1,6 +1,9 @@
 // The items of a switch, as a slice.
 ghost use mathlib.Core.List.{map};
 ghost use mathlib.Core.Path.{_≡_};
+ghost use Prim.Native.Nat.{_≤_};
+ghost use lib.ListN.{length};
+ghost use Rattle.model.specs.Composing.{outstandingActors};
 ghost use Rattle.model.specs.Models.{anyOutstanding, listsActor, markOfActor, movedItem, touchedItem};
 use model::Change;
 use model::Item;
@@ -57,4 +60,17 @@ pub(crate) fn any_outstanding(items: &[Item]) -> bool
         }
     }
     false
+}
+
+pub(crate) fn count_outstanding(items: &[Item]) -> usize
+    ensures answer { λ r. ⌜ r ≡ outstandingActors (now (items .entry)) ⌝ }
+    ensures few { λ r. ⌜ r ≤ length (now (items .entry)) ⌝ }
+{
+    let mut count = 0;
+    for item in items {
+        if item.mark.is_outstanding() {
+            count += 1;
+        }
+    }
+    count
 }

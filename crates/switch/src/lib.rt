@@ -6,6 +6,7 @@ mod row;
 mod stepping;
 
 pub use asking::MOST_ACTORS;
+pub use asking::stands_in;
 pub use memory::Switch;
 pub use row::apply_at;
 pub use row::find;

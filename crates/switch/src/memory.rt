@@ -1,7 +1,9 @@
 // An enrolled switch as the hub keeps it, in fixed memory.
+ghost use mathlib.Core.Bool.{true};
 ghost use mathlib.Core.Path.{_≡_};
 ghost use Prim.Native.Nat.{_≤_};
-ghost use lib.ListN.{length};
+ghost use lib.ListN.{length, take};
+ghost use Rattle.switch.specs.Items.{allNamed};
 use model::Item;
 use model::Mark;
 use model::Numbers;
@@ -19,4 +21,5 @@ pub struct Switch {
     pub(crate) report: Report,
     ghost long: { length items ≡ 64 },
     ghost few: { count ≤ 64 },
+    ghost named: { allNamed (take count items) ≡ true },
 }

@@ -1,8 +1,8 @@
 // What can happen to one switch alone.
 ghost use mathlib.Core.Bool.{cond};
 ghost use mathlib.Core.Path.{_≡_};
-ghost use Rattle.model.specs.Models.{allMoved, listsActor, markOfActor, touched};
-ghost use Rattle.model.specs.Composing.{hasOutstanding};
+ghost use Rattle.model.specs.Models.{allMoved, touched};
+ghost use Rattle.model.specs.Composing.{numberAfter};
 ghost use Rattle.model.specs.Taking.{withState};
 ghost use Rattle.switch.specs.Memory.{itemsIn, switchModel};
 ghost use Rattle.switch.specs.Steps.{stepped};
@@ -10,7 +10,7 @@ use crate::items;
 use crate::memory::Switch;
 use model::Change;
 use model::KeyPress;
-use model::Mark;
+use model::Numbers;
 
 // Bit 6 of the flags, InitRequest, by which a switch asks for everything.
 const INIT_REQUEST: u32 = 1 << 6;
@@ -22,6 +22,16 @@ pub enum SwitchStep {
     PressKey { actor: u16, key: u8 },
     TellReading(Option<i16>),
     Answer,
+    Compose,
+    CloseSlip,
+    BringBack,
+}
+
+// After the last package number comes 1, since 0 marks an event.
+fn number_after(number: u16) -> u16
+    ensures { λ r. ⌜ r ≡ numberAfter number ⌝ }
+{
+    if number == u16::MAX { 1 } else { number + 1 }
 }
 
 impl Switch {
@@ -66,6 +76,21 @@ impl Switch {
             SwitchStep::Answer => {
                 self.move_all(Change::Answered);
                 self.numbers.awaited = 0;
+            }
+            SwitchStep::Compose => {
+                self.move_all(Change::Composed);
+                let number = self.numbers.next;
+                self.numbers = Numbers {
+                    next: number_after(number),
+                    awaited: number,
+                    slip: Some(number),
+                };
+            }
+            SwitchStep::CloseSlip => self.numbers.slip = None,
+            SwitchStep::BringBack => {
+                self.move_all(Change::Withheld);
+                self.numbers.awaited = 0;
+                self.numbers.slip = None;
             }
         }
     }

@@ -4,7 +4,7 @@ use Prim.Native.Nat.{_<_}
 use native.Mathlib.Omega.{arith}
 use lib.ListN.{length, take}
 use Rattle.std.proofs.shelf.Lists.{map-push, take-more-set}
-use Rattle.std.proofs.shelf.Tests.{cond-false, le-ltb}
+use Rattle.std.proofs.shelf.Tests.{cond-false, le-ltb, or-from}
 use Rattle.std.specs.declared.option.Option.the-variants.{Some}
 use Rattle.model.specs.Models.{SwitchModel, withSwitches}
 use Rattle.model.specs.Opening.{newSwitch}
@@ -21,7 +21,7 @@ returns-in-Some g c =
     let x = c .in-Some .switch in
     let room : s .count < length (s .switches) = omega (arith, c .pre .0, s .long) in
     let new : switchModel x ≡ newSwitch (c .args .id) (c .args .actors .now) =
-    same-some _ _ (c .in-Some .ensures tt ∙ cond-false _ _ _ (le-ltb 64 (length (c .args .actors .now)) (c .pre .1))) in
+    same-some _ _ (c .in-Some .ensures tt ∙ cond-false _ _ _ (or-from _ _ (le-ltb 64 (length (c .args .actors .now)) (c .pre .1 .0)) (c .pre .1 .1))) in
     ap (λ (ms : List SwitchModel). withSwitches ms (hubModel (g .S·ActorStore .meaning) s))
     (ap (map switchModel) (take-more-set (s .switches) (s .count) x room)
     ∙ map-push switchModel (take (s .count) (s .switches)) x

@@ -4,8 +4,8 @@ use Prim.Native.Nat.{ℕ}
 use lib.Dec.{eqb}
 use Rattle.std.proofs.shelf.Tests.{eq-eqb, ne-eqb}
 use Rattle.store.specs.Lists.{lists}
 use Rattle.switch.proofs.Searches.{found-here, looks-on, not-found, or-as-test}
-use Rattle.hub.proofs.enrolment.stands_in.Needs as need
+use Rattle.switch.proofs.asking.stands_in.Needs as need
 
 pub returns-then-entry-actor : need.returns-then-entry-actor
 returns-then-entry-actor c =
