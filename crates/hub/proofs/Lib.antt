@@ -1,3 +1,4 @@
 pub mod Entries
 pub mod Surveys
 pub mod Takes
+pub mod Written

@@ -1,3 +1,5 @@
 pub mod Memory
 pub mod Surveys
 pub mod Slips
+pub mod Writing
+pub mod Compositions

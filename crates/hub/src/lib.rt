@@ -8,6 +8,7 @@ mod row;
 mod settings;
 mod slip;
 mod taking;
+mod writing;
 
 pub use memory::Hub;
 pub use slip::Slip;

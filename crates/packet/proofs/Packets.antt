@@ -69,7 +69,7 @@ record-reads (Event actor key) fit ok rest place = kind-reads event event-lawful
 record-reads (Temperature reading) fit ok rest place = kind-reads temperature temperature-lawful (λ _ b. Temperature b) 0 reading (omega arith) refl fit rest place (cond-false _ _ _)
 
 -- its length, which is also its first byte
-record-sized : (r : Record) (rest : List ℕ) → (length (recordBytes r) ≡ lengthOf r) × (getD (recordBytes r ++ rest) 0 0 ≡ lengthOf r) × (0 < lengthOf r)
+pub record-sized : (r : Record) (rest : List ℕ) → (length (recordBytes r) ≡ lengthOf r) × (getD (recordBytes r ++ rest) 0 0 ≡ lengthOf r) × (0 < lengthOf r)
 record-sized (State bits) rest = (refl, refl, omega arith)
 record-sized (Control bits) rest = (refl, refl, omega arith)
 record-sized (EditValue actor target) rest = (refl, refl, omega arith)
@@ -137,7 +137,7 @@ begin-holds w buf d fit e =
     }
 
 -- what a granted addition has seen and left
-abbrev Granted : Draft → Draft → ℕ → List ℕ → List ℕ → List ℕ → Type 0
+abbrev pub Granted : Draft → Draft → ℕ → List ℕ → List ℕ → List ℕ → Type 0
 Granted d e size message buf after = (sizeOf e ≡ sizeOf d + size) × (sizeOf e ≤ 1472) × (sizeOf e ≤ length buf) × (after ≡ over buf (sizeOf d) message)
 
 append-granted : {R : Type 0} (k : Layout R) (d : Draft) (actor : ℕ) (r : R) (buf : List ℕ) (e : Draft) → appended k d actor buf ≡ Ok e
@@ -151,7 +151,7 @@ append-granted k d actor r buf e h =
     let size : sizeOf e ≡ sizeOf d + k .size = ap sizeOf (sym (same-answer _ _ (room .1))) ∙ omega arith in
     (not-false _ (rule .0), (size, omega arith, omega arith, cond-false _ _ _ (rule .0) ∙ cond-false _ _ _ (room .0)))
 
-add-granted : (r : Record) (d : Draft) (buf : List ℕ) (e : Draft) → added r d buf ≡ Ok e → Admitted r × Granted d e (lengthOf r) (recordBytes r) buf (addedBytes r d buf)
+pub add-granted : (r : Record) (d : Draft) (buf : List ℕ) (e : Draft) → added r d buf ≡ Ok e → Admitted r × Granted d e (lengthOf r) (recordBytes r) buf (addedBytes r d buf)
 add-granted (State bits) d buf e h = (tt, append-granted state d 0 bits buf e h .1)
 add-granted (Control bits) d buf e h = (tt, append-granted control d 0 bits buf e h .1)
 add-granted (EditValue actor target) d buf e h = append-granted editValue d actor target buf e h
