@@ -2,3 +2,4 @@ pub mod Entries
 pub mod Surveys
 pub mod Takes
 pub mod Written
+pub mod Compositions

@@ -1,4 +1,5 @@
 // The hub: the controller's end of the line, over any actor store.
+mod composing;
 mod enrolment;
 mod handing_in;
 mod memory;
@@ -10,5 +11,6 @@ mod slip;
 mod taking;
 mod writing;
 
+pub use composing::Composed;
 pub use memory::Hub;
 pub use slip::Slip;

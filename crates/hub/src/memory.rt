@@ -2,6 +2,7 @@
 ghost use mathlib.Core.Path.{_≡_};
 ghost use Prim.Native.Nat.{_≤_};
 ghost use lib.ListN.{length};
+ghost use Rattle.packet.specs.Words.{major};
 use model::Site;
 use store::meaning::ActorStore;
 use switch::Switch;
@@ -15,4 +16,5 @@ pub struct Hub<S: ActorStore> {
     pub(crate) store: S,
     ghost long: { length switches ≡ 32 },
     ghost few: { count ≤ 32 },
+    ghost ours: { major (site .version) ≡ 2 },
 }

@@ -15,7 +15,7 @@ pub ghost-self : need.ghost-self
 ghost-self g c =
     let s = c .args .self .now in
     let room : s .count ≤ length (s .switches) = omega (arith, s .few, s .long) in
-    (kept-length (s .switches) (c .apply-at .last .switches) (s .count) room (c .apply-at .kept .switches) ∙ s .long, (s .few, tt))
+    (kept-length (s .switches) (c .apply-at .last .switches) (s .count) room (c .apply-at .kept .switches) ∙ s .long, (s .few, (s .ours, tt)))
 
 pub returns : need.returns
 returns g c =

@@ -14,7 +14,7 @@ pub ghost-self : need.ghost-self
 ghost-self g c =
     let s = c .args .self .now in
     let room : s .count ≤ length (s .switches) = omega (arith, s .few, s .long) in
-    (kept-length (s .switches) (c .touch-all .last .switches) (s .count) room (c .touch-all .kept .switches) ∙ s .long, (s .few, tt))
+    (kept-length (s .switches) (c .touch-all .last .switches) (s .count) room (c .touch-all .kept .switches) ∙ s .long, (s .few, (s .ours, tt)))
 
 pub returns : need.returns
 returns g c =
