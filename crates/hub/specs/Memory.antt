@@ -23,3 +23,8 @@ seen meaning (Err e) = Err e
 abbrev pub handedBack : {S : Type 0} → S → Result HubModel Fault → Result HubModel (Fault × S)
 handedBack store (Ok h) = Ok h
 handedBack store (Err e) = Err (e, store)
+
+-- what holds once a hub is opened
+abbrev pub IfOpened : {S : Type 0} → Type 0 → Result (Hub S) (Fault × S) → Type 0
+IfOpened holds (Ok h) = holds
+IfOpened holds (Err e) = Unit {0}
