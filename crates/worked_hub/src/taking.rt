@@ -38,6 +38,7 @@ fn key_of(press: Option<KeyPress>) -> Option<(u16, u8)> {
     }
 }
 
+// Every item is due from enrolment on, and nothing is sent here: due is what an item stays.
 #[test]
 fn edit_value() -> Result<(), Fail> {
     let mut hub = house()?;
@@ -94,7 +95,7 @@ fn counts() -> Result<(), Fail> {
         ),
         Ok(('e', 1)),
     )?;
-    // nothing was sent to switch 8, so no answer of its is awaited
+    // nothing was sent to switch 8, so it owes no answer
     check_eq(
         behind(&mut hub, 1, &[0x06, 0x42, 2, 0, 0xD7, 0]),
         Ok(('s', 1)),
