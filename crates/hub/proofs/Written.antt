@@ -160,7 +160,7 @@ control-long mark word = ways (isOutstanding mark)
 pub packet-long : (w : Descriptor) (st : Known) (m : SwitchModel) → length (packetBytes w (recordsFor st m)) ≡ packetLength m
 packet-long w st m =
     let all = ap length (joined-append (itemRecords st (m .items)) (cond (isOutstanding (m .mark)) (Control (m .control) ∷ []) []))
-        ∙ length-append (joined recordBytes (itemRecords st (m .items))) (joined recordBytes (cond (isOutstanding (m .mark)) (Control (m .control) ∷ []) [])) in
+    ∙ length-append (joined recordBytes (itemRecords st (m .items))) (joined recordBytes (cond (isOutstanding (m .mark)) (Control (m .control) ∷ []) [])) in
     let items = items-long st (m .items) in
     let last = control-long (m .mark) (m .control) in
     omega arith

@@ -106,7 +106,12 @@ fn finish(draft: Draft, buf: &mut [u8])
 }
 
 // Writes the packet for a switch into a buffer that has room for it.
-pub(crate) fn write_packet<S: ActorStore>(store: &S, switch: &Switch, words: Descriptor, buf: &mut [u8])
+pub(crate) fn write_packet<S: ActorStore>(
+    store: &S,
+    switch: &Switch,
+    words: Descriptor,
+    buf: &mut [u8],
+)
     requires { ⌜ major (words .version) ≡ 2 ⌝ ∗ ⌜ packetLength (switchModel (now switch)) ≤ length (now buf) ⌝ }
     ensures { λ _. ⌜ now (buf .exit) ≡ packetBytes words (recordsFor (S·ActorStore .meaning (now (store .entry))) (switchModel (now (switch .entry)))) ++ drop (packetLength (switchModel (now (switch .entry)))) (now (buf .entry)) ⌝ }
 {

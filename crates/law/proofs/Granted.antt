@@ -13,7 +13,8 @@ use Rattle.std.specs.declared.option.Option.the-variants.{Some, None}
 use Rattle.std.specs.declared.result.Result.{Result}
 use Rattle.std.specs.declared.result.Result.the-variants.{Ok, Err}
 use Rattle.std.proofs.shelf.Lists.{take-at}
-use Rattle.std.proofs.shelf.Tests.{eqb-false, ltb-false, or-parts}
+use Rattle.std.proofs.shelf.Tests.{eq-eqb, eqb-false, ltb-false, or-parts}
+use Rattle.std.specs.Results.{isOk}
 use Rattle.fault.specs.declared.CallFault.the-variants.{NoSlip, NothingOutstanding, ShortBuffer, SlipOpen}
 use Rattle.fault.specs.declared.Fault.{Fault}
 use Rattle.fault.specs.declared.Fault.the-variants as fault
@@ -28,6 +29,7 @@ use Rattle.law.specs.Values.{All}
 use Rattle.law.specs.World as world
 use Rattle.law.specs.World.{Call, Refused, leaves}
 use Rattle.law.proofs.Elements.{err≢ok, none≢some, ok-inj}
+use Rattle.law.proofs.Switches.{find-at-same, mapped}
 
 -- a test that was passed
 passed : {A : Type 0} (b : Bool) (f : Fault) (r : Result A Fault) {x : A} → cond b (Err f) r ≡ Ok x → (b ≡ false) × (r ≡ Ok x)
@@ -89,6 +91,7 @@ pub record Issued (h : HubModel) (s : ℕ) (buf : List ℕ) (c : Composition) (g
   pub enrolled : findSwitch s (h .switches) ≡ Some switch
   pub after : g ≡ changeSwitch s composed h
   pub bytes : take (c .size) (composedBytes h s buf) ≡ packetFor h switch
+  pub number : c .number ≡ switch .numbers .next
 
 pub compose-is : (h : HubModel) (s : ℕ) (buf : List ℕ) (c : Composition) (g : HubModel) → compose h s buf ≡ Ok (c, g) → Issued h s buf c g
 compose-is h s buf c g e =
@@ -104,7 +107,18 @@ compose-is h s buf c g e =
       enrolled = f .1;
       after = ap (λ (y : Composition × HubModel). y .1) (sym same);
       bytes = ap (take (c .size)) (ap₂ (λ (o : Option SwitchModel) (r : Step Composition). packetOver h o buf r) (f .1) e) ∙ take-at (packetFor h m) (drop (length (packetFor h m)) buf) (c .size) size;
+      number = ap (λ (y : Composition × HubModel). y .0 .number) (sym same);
     }
+
+-- the slip that a compose issues is owed: handed in next, it is accepted
+pub slip-is-owed : (h : HubModel) (s : ℕ) (buf : List ℕ) (c : Composition) (g : HubModel) → compose h s buf ≡ Ok (c, g) → isOk (sent g s (c .number)) ≡ true
+slip-is-owed h s buf c g e =
+    let i = compose-is h s buf c g e in
+    let m = i .switch in
+    let at = ap (λ (k : HubModel). findSwitch s (k .switches)) (i .after) ∙ find-at-same s composed (λ x. refl) (h .switches) ∙ ap (mapped composed) (i .enrolled) in
+    let owed = ap (λ (n : ℕ). isOpenSlip (composed m .numbers .slip) n) (i .number) ∙ eq-eqb (m .numbers .next) (m .numbers .next) refl in
+    ap (λ (o : Option SwitchModel). isOk (handIn closedSlip g s (c .number) o)) at
+    ∙ ap (λ (b : Bool). isOk (cond {A = Step Unit} b (Ok (tt, changeSwitch s closedSlip g)) (Err (fault.Call NoSlip 0)))) owed
 
 hand-in : (f : SwitchModel → SwitchModel) (h : HubModel) (s number : ℕ) (o : Option SwitchModel) (g : HubModel) → handIn f h s number o ≡ Ok (tt, g)
     → (m : SwitchModel) × (o ≡ Some m) × (g ≡ changeSwitch s f h) × (isOpenSlip (m .numbers .slip) number ≡ true)

@@ -16,7 +16,7 @@ returns g c =
     let p = c .values-actual .result in
     let fits = c .values-actual .ensures .fits in
     let both = wrote-then (c .args .draft) (c .add-draft .result) (c .add .result) (c .args .buf .now) (c .add-draft .last .buf) (c .add .last .buf)
-        (RealValue a (toZ w16 (ofZ w16 (p .0))) ∷ []) (EditValue a (toZ w16 (ofZ w16 (p .1))) ∷ []) (c .add-draft .ensures) (c .add .ensures) in
+    (RealValue a (toZ w16 (ofZ w16 (p .0))) ∷ []) (EditValue a (toZ w16 (ofZ w16 (p .1))) ∷ []) (c .add-draft .ensures) (c .add .ensures) in
     let same = ap₂ (λ (x y : ℤ). RealValue a x ∷ (EditValue a y ∷ [])) (toZ-ofZ w16 (p .0) (fits .0)) (toZ-ofZ w16 (p .1) (fits .1))
-        ∙ ap (λ (q : ℤ × ℤ). RealValue a (q .0) ∷ (EditValue a (q .1) ∷ [])) (c .values-actual .ensures .answer) in
+    ∙ ap (λ (q : ℤ × ℤ). RealValue a (q .0) ∷ (EditValue a (q .1) ∷ [])) (c .values-actual .ensures .answer) in
     subst (λ (l : List Record). Wrote (c .args .draft) (c .args .buf .now) l (c .add .result) (c .add .last .buf)) same both

@@ -42,18 +42,19 @@ loop-item-again g c =
     let more = items-more xs i noItem (c .loop-item-test .taken) st in
     let d = c .args .draft in
     let buf = c .args .buf .now in
-    elim (c .if-is-outstanding .came)
-    [ then-is-outstanding w ↦
-      (let all = more ∙ ap (λ (l : List Record). itemRecords st (take i xs) ++ l) (cond-true _ _ _ (sym (w .if-is-outstanding .ensures tt))) in
-      subst (λ (e : Draft). Wrote d buf (itemRecords st (take (i + 1) xs)) e (c .if-is-outstanding .buf)) (sym (w .draft-is))
-      (subst (λ (b : List ℕ). Wrote d buf (itemRecords st (take (i + 1) xs)) (w .write-actor-draft .result) b) (sym (w .buf-is))
-      (subst (λ (l : List Record). Wrote d buf l (w .write-actor-draft .result) (w .write-actor-draft .last .buf)) (sym all)
-      (wrote-then d (c .loop-item .draft) (w .write-actor-draft .result) buf (c .loop-item .buf) (w .write-actor-draft .last .buf) (itemRecords st (take i xs)) (actorRecords st (x .actor)) (c .loop-item .inv) (w .write-actor-draft .ensures)))))
-    | else-is-outstanding w ↦
-      (let all = more ∙ ap (λ (l : List Record). itemRecords st (take i xs) ++ l) (cond-false _ _ _ (sym (w .if-is-outstanding .ensures tt))) ∙ append-nil (itemRecords st (take i xs)) in
-      subst (λ (e : Draft). Wrote d buf (itemRecords st (take (i + 1) xs)) e (c .if-is-outstanding .buf)) (sym (w .draft-is))
-      (subst (λ (b : List ℕ). Wrote d buf (itemRecords st (take (i + 1) xs)) (c .loop-item .draft) b) (sym (w .buf-is))
-      (subst (λ (l : List Record). Wrote d buf l (c .loop-item .draft) (c .loop-item .buf)) (sym all) (c .loop-item .inv)))) ]
+    elim (c .if-is-outstanding .came) [
+      | then-is-outstanding w ↦
+          (let all = more ∙ ap (λ (l : List Record). itemRecords st (take i xs) ++ l) (cond-true _ _ _ (sym (w .if-is-outstanding .ensures tt))) in
+          subst (λ (e : Draft). Wrote d buf (itemRecords st (take (i + 1) xs)) e (c .if-is-outstanding .buf)) (sym (w .draft-is))
+          (subst (λ (b : List ℕ). Wrote d buf (itemRecords st (take (i + 1) xs)) (w .write-actor-draft .result) b) (sym (w .buf-is))
+          (subst (λ (l : List Record). Wrote d buf l (w .write-actor-draft .result) (w .write-actor-draft .last .buf)) (sym all)
+          (wrote-then d (c .loop-item .draft) (w .write-actor-draft .result) buf (c .loop-item .buf) (w .write-actor-draft .last .buf) (itemRecords st (take i xs)) (actorRecords st (x .actor)) (c .loop-item .inv) (w .write-actor-draft .ensures)))))
+      | else-is-outstanding w ↦
+          (let all = more ∙ ap (λ (l : List Record). itemRecords st (take i xs) ++ l) (cond-false _ _ _ (sym (w .if-is-outstanding .ensures tt))) ∙ append-nil (itemRecords st (take i xs)) in
+          subst (λ (e : Draft). Wrote d buf (itemRecords st (take (i + 1) xs)) e (c .if-is-outstanding .buf)) (sym (w .draft-is))
+          (subst (λ (b : List ℕ). Wrote d buf (itemRecords st (take (i + 1) xs)) (c .loop-item .draft) b) (sym (w .buf-is))
+          (subst (λ (l : List Record). Wrote d buf l (c .loop-item .draft) (c .loop-item .buf)) (sym all) (c .loop-item .inv))))
+    ]
 
 pub returns : need.returns
 returns g c =

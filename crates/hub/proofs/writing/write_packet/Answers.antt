@@ -88,10 +88,10 @@ returns g c =
     let upto : sizeOf (c .write-items-draft .result) ≤ packetLength m = omega arith in
     let written = c .write-control-draft .ensures .drafting w _ (c .write-items-draft .ensures .drafting w [] (c .begin-draft .ensures .drafting)) in
     let said = ap₂ (λ (is : List Item) (rs : List Record). itemRecords st is ++ rs) (c .items .ensures .items)
-        (ap₂ (λ (k : Mark) (word : ℕ). cond (isOutstanding k) (Control word ∷ []) []) (c .control-mark .ensures) (c .control .ensures)) in
+    (ap₂ (λ (k : Mark) (word : ℕ). cond (isOutstanding k) (Control word ∷ []) []) (c .control-mark .ensures) (c .control .ensures)) in
     let front = ap (λ (n : ℕ). take n end) (sym whole) ∙ c .finish .ensures .packet w _ written ∙ ap (packetBytes w) said in
     let beyond = c .finish .ensures .beyond (packetLength m) (omega arith)
-        ∙ c .write-control-draft .ensures .beyond (packetLength m) (omega arith)
-        ∙ c .write-items-draft .ensures .beyond (packetLength m) upto
-        ∙ c .begin-draft .ensures .beyond (packetLength m) from in
+    ∙ c .write-control-draft .ensures .beyond (packetLength m) (omega arith)
+    ∙ c .write-items-draft .ensures .beyond (packetLength m) upto
+    ∙ c .begin-draft .ensures .beyond (packetLength m) from in
     sym (take-append-drop (packetLength m) end) ∙ ap₂ (λ (a b : List ℕ). a ++ b) front beyond
