@@ -3,3 +3,4 @@ pub mod Surveys
 pub mod Takes
 pub mod Written
 pub mod Compositions
+pub mod Owed

@@ -48,6 +48,13 @@ pub(crate) fn is_due(answer: Result<Mark, Fault>) -> bool {
     }
 }
 
+pub(crate) fn is_settled(answer: Result<Mark, Fault>) -> bool {
+    match answer {
+        Ok(Mark::Settled) => true,
+        _ => false,
+    }
+}
+
 // A descriptor of switch 8 in an event, which says 16 bytes.
 const BARE: [u8; 16] = [
     0x01,

@@ -2,8 +2,11 @@
 #[cfg(test)]
 mod asking;
 #[cfg(test)]
+mod crossing;
+#[cfg(test)]
 mod house;
 #[cfg(test)]
 mod opening;
+mod sending;
 #[cfg(test)]
 mod taking;

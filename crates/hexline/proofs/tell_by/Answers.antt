@@ -1,5 +1,5 @@
 use Rattle.hub.specs.Memory.{hubModel}
-use Rattle.hexline.proofs.Owed.{owed}
+use Rattle.hub.proofs.Owed.{owed}
 use Rattle.hexline.proofs.tell_by.Needs as need
 
 pub hand-in-requires : need.hand-in-requires
