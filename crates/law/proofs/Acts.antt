@@ -9,18 +9,20 @@ use lib.Dec.{eqb}
 use lib.IntN.{ℤ}
 use Rattle.std.specs.declared.option.Option.{Option}
 use Rattle.std.specs.declared.option.Option.the-variants.{Some}
+use Rattle.std.specs.shelf.Lists.{All}
 use Rattle.std.proofs.shelf.Tests.{eqb-false}
+use Rattle.std.proofs.shelf.Elements.{all-push}
 use Rattle.store.specs.declared.meaning.Half.the-variants.{Target}
 use Rattle.store.specs.Meaning.{Known}
 use Rattle.model.specs.declared.mark.Mark.{Mark}
 use Rattle.model.specs.declared.mark.Mark.the-variants.{Settled, Due, UnderWay}
 use Rattle.model.specs.Models.{SwitchModel}
-use Rattle.law.specs.Values.{All, Any, slot, spoken}
+use Rattle.law.specs.Values.{Any, slot, spoken}
 use Rattle.law.specs.World as world
 use Rattle.law.specs.World.{About, Act, Display, End, Packet, Payload, acting, restarted, says, turned, withLineFrom}
 use Rattle.law.specs.Law.{Tells}
 use Rattle.law.proofs.Brought.{slot-apart}
-use Rattle.law.proofs.Elements.{all-any, all-map, all-push}
+use Rattle.law.proofs.Elements.{all-any, all-then}
 use Rattle.law.proofs.Invariant.{AboutFine, Good, Here, Lines, MarkFine, PayloadFine}
 use Rattle.law.proofs.Packets.{switch-stays}
 
@@ -105,8 +107,8 @@ here-turned st o e b v p k h =
         passed = l .passed;
         behind = l .behind;
         ahead = l .ahead;
-        coming = all-push (PayloadFine (suc (e .display .acts)) (e .lineTo .delivered)) (e .lineFrom) p (all-map (payload-act _ _) _ (l .coming)) k;
-        taken = all-map (payload-act _ _) _ (l .taken);
+        coming = all-push (PayloadFine (suc (e .display .acts)) (e .lineTo .delivered)) (e .lineFrom) p (all-then (payload-act _ _) _ (l .coming)) k;
+        taken = all-then (payload-act _ _) _ (l .taken);
       },
       switch-stays st o e (acting (turned b v (e .display)) (p ∷ []) e) refl refl (mark-acted e (turned b v (e .display)) (p ∷ []) (good-turned e b v (p ∷ []) l)) (h .1),
     )
@@ -118,8 +120,8 @@ here-restarted st o e h =
         passed = l .passed;
         behind = l .behind;
         ahead = l .ahead;
-        coming = subst (All (PayloadFine (suc (e .display .acts)) (e .lineTo .delivered))) (sym (append-nil (e .lineFrom))) (all-map (payload-act _ _) _ (l .coming));
-        taken = all-map (payload-act _ _) _ (l .taken);
+        coming = subst (All (PayloadFine (suc (e .display .acts)) (e .lineTo .delivered))) (sym (append-nil (e .lineFrom))) (all-then (payload-act _ _) _ (l .coming));
+        taken = all-then (payload-act _ _) _ (l .taken);
       },
       switch-stays st o e (acting (restarted (e .display)) [] e) refl refl
           (mark-acted e (restarted (e .display)) [] (λ values a g. inr (world.Act.restart (e .display .acts), refl, fresh-restart e a l))) (h .1),

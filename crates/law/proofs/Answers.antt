@@ -10,6 +10,7 @@ use lib.IntN.{ℤ}
 use Rattle.std.specs.Options.{isSome}
 use Rattle.std.specs.declared.option.Option.{Option}
 use Rattle.std.specs.declared.option.Option.the-variants.{Some, None}
+use Rattle.std.specs.shelf.Lists.{All}
 use Rattle.std.proofs.shelf.Tests.{eqb-true}
 use Rattle.store.specs.Meaning.{Known}
 use Rattle.model.specs.declared.item.Item.{Item}
@@ -19,7 +20,7 @@ use Rattle.model.specs.declared.mark.Mark.the-variants.{Settled, Due, UnderWay}
 use Rattle.model.specs.Marks.{moved}
 use Rattle.model.specs.Models.{SwitchModel, listsActor}
 use Rattle.model.specs.Taking.{answered}
-use Rattle.law.specs.Values.{All, Any, Inits, spoken}
+use Rattle.law.specs.Values.{Any, Inits, spoken}
 use Rattle.law.specs.World as world
 use Rattle.law.specs.World.{About, Act, End, InTime, Packet, Payload, accepts, messagesIn}
 use Rattle.law.specs.Law.{Tells}

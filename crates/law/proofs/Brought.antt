@@ -8,11 +8,12 @@ use lib.Dec.{eqb}
 use lib.IntN.{ℤ}
 use Rattle.std.specs.declared.option.Option.{Option}
 use Rattle.std.specs.declared.option.Option.the-variants.{Some, None}
+use Rattle.std.specs.shelf.Lists.{All}
 use Rattle.std.proofs.shelf.Tests.{and-parts, cases-bool, eq-eqb, eqb-true, ne-eqb, true≢false}
 use Rattle.packet.specs.declared.records.Message.{Message}
 use Rattle.store.specs.declared.meaning.Half.{Half}
 use Rattle.store.specs.declared.meaning.Half.the-variants.{Actual, Target}
-use Rattle.law.specs.Values.{All, Any, Slot, broughtBy, halfOf, sameHalf, sameSlot, showAll, showOne, slot}
+use Rattle.law.specs.Values.{Any, Slot, broughtBy, halfOf, sameHalf, sameSlot, showAll, showOne, slot}
 use Rattle.law.specs.World.{Act, bringAll, bringOne}
 
 -- Slots.
@@ -48,10 +49,6 @@ Brings P (Some x) = P (x .0) (x .1)
 abbrev pub BringsSlot : Slot → Option (Slot × ℤ) → Type 0
 BringsSlot k None = ⊥
 BringsSlot k (Some x) = x .0 ≡ k
-
-pub brings-map : {P Q : Slot → ℤ → Type 0} → ((k : Slot) (v : ℤ) → P k v → Q k v) → (o : Option (Slot × ℤ)) → Brings P o → Brings Q o
-brings-map f None p = tt
-brings-map f (Some x) p = f (x .0) (x .1) p
 
 -- no message brings actor a; those that bring it bring these values; each of its two slots is brought
 abbrev pub Silent : ℕ → List Message → Type 0

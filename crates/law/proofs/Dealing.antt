@@ -23,9 +23,9 @@ count-append (x ∷ xs) ys = let ih : countKnown (xs ++ ys) ≡ countKnown xs + 
 dealt-is : {s : ℕ} {h : HubModel} {ms : List Message} {g : HubModel} {n : ℕ} → Dealt s h ms g n → (g ≡ hearAll s ms h) × (n ≡ countKnown ms)
 unfolding hearAll countKnown
 dealt-is law.Dealt.nothing = (refl, refl)
-dealt-is {s} {h} (law.Dealt.packet {ms} {g} {n} dealt payload d more count k said from taken) =
+dealt-is {s} {h} (law.Dealt.packet {ms} {g} {n} dealt payload d more told count k said from zero taken) =
     let ih = dealt-is dealt in
-    let x = event-is g payload d more count k said taken .1 in (
+    let x = event-is g payload d more told count k said zero taken in (
       x .after ∙ ap₂ (λ (i : ℕ) (j : HubModel). hearAll i more j) from (ih .0) ∙ sym (hear-append s ms more h),
       ap₂ _+_ (ih .1) (x .counted) ∙ sym (count-append ms more),
     )

@@ -6,7 +6,9 @@ use Rattle.std.specs.declared.option.Option.{Option}
 use Rattle.std.specs.declared.option.Option.the-variants.{Some, None}
 use Rattle.std.specs.declared.result.Result.{Result}
 use Rattle.std.specs.declared.result.Result.the-variants.{Ok, Err}
-use Rattle.law.specs.Values.{All, Any}
+use Rattle.std.specs.shelf.Lists.{All}
+use Rattle.std.proofs.shelf.Elements.{all-map, all-weaker}
+use Rattle.law.specs.Values.{Any}
 
 abbrev someOr : {A : Type 0} → A → Option A → A
 someOr x None = x
@@ -38,21 +40,12 @@ err≢ok p = subst IsOk (sym p) tt
 
 -- each element
 
-pub all-map : {A : Type 0} {P Q : A → Type 0} → ((a : A) → P a → Q a) → (xs : List A) → All P xs → All Q xs
-all-map f [] p = tt
-all-map f (x ∷ xs) p = (f x (p .0), all-map f xs (p .1))
+-- weakened, what holds found by itself
+pub all-then : {A : Type 0} {P Q : A → Type 0} → ((a : A) → P a → Q a) → (xs : List A) → All P xs → All Q xs
+all-then {A} {P} {Q} f xs p = all-weaker P Q f xs p
 
 pub all-mapped : {A B : Type 0} (f : A → B) {P : A → Type 0} (Q : B → Type 0) → ((a : A) → P a → Q (f a)) → (xs : List A) → All P xs → All Q (map f xs)
-all-mapped f Q h [] p = tt
-all-mapped f Q h (x ∷ xs) p = (h x (p .0), all-mapped f Q h xs (p .1))
-
-pub all-push : {A : Type 0} (P : A → Type 0) (xs : List A) (y : A) → All P xs → P y → All P (xs ++ (y ∷ []))
-all-push P [] y p q = (q, tt)
-all-push P (x ∷ xs) y p q = (p .0, all-push P xs y (p .1) q)
-
-pub all-append : {A : Type 0} (P : A → Type 0) (xs ys : List A) → All P xs → All P ys → All P (xs ++ ys)
-all-append P [] ys p q = q
-all-append P (x ∷ xs) ys p q = (p .0, all-append P xs ys (p .1) q)
+all-mapped f {P} Q h xs p = all-map Q f xs (all-weaker P (λ a. Q (f a)) h xs p)
 
 pub all-front : {A : Type 0} (P : A → Type 0) (xs ys : List A) → All P (xs ++ ys) → All P xs
 all-front P [] ys p = tt
@@ -69,15 +62,6 @@ pub any-map : {A : Type 0} {P Q : A → Type 0} → ((a : A) → P a → Q a) �
 any-map f [] p = p
 any-map f (x ∷ xs) (inl p) = inl (f x p)
 any-map f (x ∷ xs) (inr p) = inr (any-map f xs p)
-
-pub any-left : {A : Type 0} (P : A → Type 0) (xs ys : List A) → Any P xs → Any P (xs ++ ys)
-any-left P [] ys p = absurd p
-any-left P (x ∷ xs) ys (inl p) = inl p
-any-left P (x ∷ xs) ys (inr p) = inr (any-left P xs ys p)
-
-pub any-right : {A : Type 0} (P : A → Type 0) (xs ys : List A) → Any P ys → Any P (xs ++ ys)
-any-right P [] ys p = p
-any-right P (x ∷ xs) ys p = inr (any-right P xs ys p)
 
 pub cons≢nil : {A : Type 0} {x : A} {xs : List A} → x ∷ xs ≡ [] → ⊥
 cons≢nil p = subst IsCons p tt

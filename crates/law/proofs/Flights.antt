@@ -4,9 +4,9 @@ use mathlib.Core.Path.{_≡_, refl}
 use mathlib.Core.List.{List, [], _∷_, _++_}
 use native.Mathlib.Omega.{arith}
 use lib.Dec.{eqb}
+use Rattle.std.specs.shelf.Lists.{All}
 use Rattle.std.proofs.shelf.Tests.{cond-both, eqb-false, eqb-true}
 use Rattle.model.specs.Composing.{numberAfter}
-use Rattle.law.specs.Values.{All}
 use Rattle.law.specs.World.{Packet}
 use Rattle.law.proofs.Elements.{all-any}
 use Rattle.law.proofs.Invariant.{Behind, Between, Delivered, Numbered, numberOf}

@@ -12,6 +12,7 @@ use Rattle.std.specs.declared.option.Option.{Option}
 use Rattle.std.specs.declared.option.Option.the-variants.{Some, None}
 use Rattle.std.specs.declared.result.Result.{Result}
 use Rattle.std.specs.declared.result.Result.the-variants.{Ok, Err}
+use Rattle.std.specs.shelf.Lists.{All}
 use Rattle.std.proofs.shelf.Lists.{take-at}
 use Rattle.std.proofs.shelf.Tests.{eq-eqb, eqb-false, ltb-false, or-parts}
 use Rattle.std.specs.Results.{isOk}
@@ -25,7 +26,6 @@ use Rattle.model.specs.Composing.{Composition, broughtBack, closedSlip, compose
 use Rattle.model.specs.Models.{HubModel, Step, SwitchModel, changeSwitch, findSwitch, hubAfter, withControl, withSwitches}
 use Rattle.model.specs.Opening.{enrol, enrolFault, entryFault, newSwitch, unless}
 use Rattle.model.specs.Settings.{atEnrolled, granted, setControl, setValue, withValue}
-use Rattle.law.specs.Values.{All}
 use Rattle.law.specs.World as world
 use Rattle.law.specs.World.{Call, Refused, leaves}
 use Rattle.law.proofs.Elements.{err≢ok, none≢some, ok-inj}

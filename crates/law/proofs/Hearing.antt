@@ -11,6 +11,7 @@ use Rattle.std.specs.declared.option.Option.{Option}
 use Rattle.std.specs.declared.option.Option.the-variants.{Some, None}
 use Rattle.std.specs.declared.result.Result.{Result}
 use Rattle.std.specs.declared.result.Result.the-variants.{Ok, Err}
+use Rattle.std.specs.shelf.Lists.{All}
 use Rattle.std.proofs.shelf.Tests.{and-parts, cond-both, eq-eqb, true≢false}
 use Rattle.fault.specs.declared.Fault.{Fault}
 use Rattle.packet.specs.declared.records.Message.{Message}
@@ -26,7 +27,7 @@ use Rattle.model.specs.declared.told.Report.{Report}
 use Rattle.model.specs.Models.{HubModel, SwitchModel, allMoved, changeSwitch, findSwitch, hubAfter, listsActor, movedItem, touched, touchedItem, withReport}
 use Rattle.model.specs.Settings.{granted, withValue}
 use Rattle.model.specs.Taking.{asksInit, heardMessage, heardRecord, messageListed, recordListed, withFlags}
-use Rattle.law.specs.Values.{All, Any, Edits, EditsRecord, Inits, InitsRecord, Slot, noteAll, noteMessage, slot}
+use Rattle.law.specs.Values.{Any, Edits, EditsRecord, Inits, InitsRecord, Slot, noteAll, noteMessage, slot}
 use Rattle.law.proofs.Elements.{all-mapped}
 use Rattle.law.proofs.Held.{Recalls, put-known, put-recalls}
 use Rattle.law.proofs.Switches.{find-at-same, find-map, found-after, mapped}

@@ -9,6 +9,7 @@ use lib.ListN.{length}
 use Rattle.std.specs.Options.{isSome}
 use Rattle.std.specs.declared.option.Option.{Option}
 use Rattle.std.specs.declared.option.Option.the-variants.{Some, None}
+use Rattle.std.specs.shelf.Lists.{All}
 use Rattle.packet.specs.declared.records.Message.{Message}
 use Rattle.packet.specs.declared.words.Descriptor.{Descriptor}
 use Rattle.store.specs.declared.meaning.Half.{Half}
@@ -20,7 +21,7 @@ use Rattle.model.specs.declared.told.Numbers.{Numbers}
 use Rattle.model.specs.declared.told.Site.{Site}
 use Rattle.model.specs.Composing.{valuesOf}
 use Rattle.model.specs.Models.{SwitchModel, findSwitch}
-use Rattle.law.specs.Values.{All, Any, Edits, halfOf, slot, spoken}
+use Rattle.law.specs.Values.{Any, Edits, halfOf, slot, spoken}
 use Rattle.law.specs.World as world
 use Rattle.law.specs.World.{About, End, LineTo, Packet, Payload, World, messagesIn}
 use Rattle.law.specs.Law.{Excused}

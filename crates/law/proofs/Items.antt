@@ -7,6 +7,7 @@ use mathlib.Core.List.{List, [], _∷_, map}
 use lib.Dec.{eqb}
 use lib.IntN.{ℤ}
 use Rattle.std.specs.declared.option.Option.{Option}
+use Rattle.std.specs.shelf.Lists.{All}
 use Rattle.std.proofs.shelf.Tests.{eq-eqb, eqb-false, eqb-true, or-cases, or-left, or-right, true≢false}
 use Rattle.store.specs.declared.meaning.Half.{Half}
 use Rattle.store.specs.Meaning.{Known, afterPut}
@@ -18,9 +19,8 @@ use Rattle.model.specs.declared.mark.Mark.the-variants.{Due}
 use Rattle.model.specs.Composing.{valuesOf}
 use Rattle.model.specs.Marks.{moved}
 use Rattle.model.specs.Models.{listsActor, movedItem, touchedItem}
-use Rattle.law.specs.Values.{All}
 use Rattle.law.specs.World.{End}
-use Rattle.law.proofs.Elements.{all-map, all-mapped}
+use Rattle.law.proofs.Elements.{all-then, all-mapped}
 use Rattle.law.proofs.Held.{put-known, put-other}
 use Rattle.law.proofs.Invariant.{ItemFine, MarkFine}
 
@@ -33,19 +33,19 @@ all-listed : (P : Item → Type 0) (items : List Item) → All P items → All (
 all-listed P [] p = tt
 all-listed P (x ∷ xs) p = (
   (or-left (eqb (x .actor) (x .actor)) _ (eq-eqb (x .actor) (x .actor) refl), p .0),
-  all-map (λ y q. (or-right (eqb (x .actor) (y .actor)) _ (q .0), q .1)) xs (all-listed P xs (p .1)),
+  all-then (λ y q. (or-right (eqb (x .actor) (y .actor)) _ (q .0), q .1)) xs (all-listed P xs (p .1)),
 )
 
 -- all entries of one actor have the mark of any
 pub same-mark : {st : Known} {marks : ℕ → Mark} {e : End} (x : Item) → ItemFine st marks e x → (items : List Item) → All (ItemFine st marks e) items
     → All (λ y. y .actor ≡ x .actor → y .mark ≡ x .mark) items
-same-mark {st} {marks} x f items = all-map (λ y g q. g .marked ∙ ap marks q ∙ sym (f .marked)) items
+same-mark {st} {marks} x f items = all-then (λ y g q. g .marked ∙ ap marks q ∙ sym (f .marked)) items
 
 module _ (st : Known) (marks : ℕ → Mark) (e e′ : End) (items : List Item) where
   -- marks as they are
   pub items-stay : ((x : Item) → listsActor (x .actor) items ≡ true → ItemFine st marks e x → MarkFine (valuesOf (st (x .actor))) (x .actor) e′ (x .mark))
       → All (ItemFine st marks e) items → All (ItemFine st marks e′) items
-  items-stay g p = all-map (λ x q. record { fits = q .1 .fits; known = q .1 .known; marked = q .1 .marked; fine = g x (q .0) (q .1) }) items (all-listed (ItemFine st marks e) items p)
+  items-stay g p = all-then (λ x q. record { fits = q .1 .fits; known = q .1 .known; marked = q .1 .marked; fine = g x (q .0) (q .1) }) items (all-listed (ItemFine st marks e) items p)
 
   -- every item moved
   pub items-moved : (c : Change) → ((x : Item) → listsActor (x .actor) items ≡ true → ItemFine st marks e x → MarkFine (valuesOf (st (x .actor))) (x .actor) e′ (moved (x .mark) c))

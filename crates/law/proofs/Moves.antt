@@ -13,6 +13,7 @@ use Rattle.std.specs.Options.{isSome}
 use Rattle.std.specs.declared.option.Option.{Option}
 use Rattle.std.specs.declared.option.Option.the-variants.{Some, None}
 use Rattle.std.specs.declared.result.Result.the-variants.{Ok}
+use Rattle.std.specs.shelf.Lists.{All}
 use Rattle.std.proofs.shelf.Lists.{length-map}
 use Rattle.packet.specs.declared.records.Message.{Message}
 use Rattle.packet.specs.declared.words.Descriptor.{Descriptor}
@@ -23,21 +24,20 @@ use Rattle.store.specs.declared.meaning.Half.the-variants.{Target}
 use Rattle.store.specs.Meaning.{Known, lawful, putAnswer}
 use Rattle.model.specs.declared.mark.Mark.the-variants.{Due}
 use Rattle.model.specs.declared.told.Arrival.{Arrival}
-use Rattle.model.specs.declared.told.Arrival.the-variants as arrival
 use Rattle.model.specs.declared.told.Site.{Site}
 use Rattle.model.specs.Composing.{Composition, broughtBack, closedSlip, compose, composed, composedBytes, recordsFor, wordsFor}
 use Rattle.model.specs.Models.{HubModel, SwitchModel, changeSwitch, findSwitch, listsActor, touched, withControl}
 use Rattle.model.specs.Opening.{dueItem, enrol, newSwitch}
 use Rattle.model.specs.Settings.{setControl, withValue}
 use Rattle.model.specs.Taking.{answered, takePayload}
-use Rattle.law.specs.Values.{All, Any, Edits, noteAll, slot, spoken}
+use Rattle.law.specs.Values.{Any, Edits, noteAll, slot, spoken}
 use Rattle.law.specs.World as world
 use Rattle.law.specs.World.{End, InTime, Move, Payload, Repeats, Run, World, accepts, answerTo, issued, messagesIn, otherEvent, packetNow, payloadNow, says, turnOf, withEnd, withHub, withLineTo, withPast}
 use Rattle.law.specs.Law.{SiteFits}
 use Rattle.law.proofs.Acts.{here-loses-payload, here-restarted, here-says, here-turned}
 use Rattle.law.proofs.Answers.{head-fine, here-answered, kept-accepted, lines-accepted, settledBy, tells-hits}
 use Rattle.law.proofs.Changes.{kept-control, kept-init, kept-report, kept-set}
-use Rattle.law.proofs.Elements.{all-any, all-map, any-map}
+use Rattle.law.proofs.Elements.{all-any, all-then, any-map}
 use Rattle.law.proofs.Flights.{number-fits}
 use Rattle.law.proofs.Granted.{Entry, Issued, compose-is, control-is, enrol-is, refused-leaves, sent-is, set-is, withheld-is}
 use Rattle.law.proofs.Hearing.{Hits, hear-hits, hear-keeps, hear-known, hear-recalls}
@@ -181,11 +181,11 @@ module _ (words : Site) where
         );
       }
 
-  keep-event : (w : World) (s : ℕ) (p : Payload) (rest : List Payload) (d : Descriptor) (ms : List Message) (count : ℕ) (g : HubModel) → w .ends s .lineFrom ≡ p ∷ rest
-      → spoken (p .bytes) ≡ Some (d, ms) → d .switch ≡ s → takePayload (w .hub) (p .bytes) ≡ Ok ((arrival.Event, count), g)
+  keep-event : (w : World) (s : ℕ) (p : Payload) (rest : List Payload) (d : Descriptor) (ms : List Message) (told : Arrival) (count : ℕ) (g : HubModel) → w .ends s .lineFrom ≡ p ∷ rest
+      → spoken (p .bytes) ≡ Some (d, ms) → d .switch ≡ s → d .number ≡ 0 → takePayload (w .hub) (p .bytes) ≡ Ok ((told, count), g)
       → Holds words w → Holds words (withEnd s (accepts p rest (w .ends s)) (withPast (noteAll ms (w .past)) (withHub g w)))
-  keep-event w s p rest d ms count g q said from taken i =
-      let r = event-is (w .hub) (p .bytes) d ms count g said taken .1 in
+  keep-event w s p rest d ms told count g q said from zero taken i =
+      let r = event-is (w .hub) (p .bytes) d ms told count g said zero taken in
       subst (λ h. Holds words (withEnd s (accepts p rest (w .ends s)) (withPast (noteAll ms (w .past)) (withHub h w)))) (sym (r .after ∙ ap (λ (n : ℕ). hearAll n ms (w .hub)) from))
       (keep-heard w s p rest d ms (r .switch) q said (ap (λ (n : ℕ). findSwitch n (w .hub .switches)) (sym from) ∙ r .enrolled) (r .listed) i)
 
@@ -238,7 +238,7 @@ module _ (words : Site) where
         let f : SwitchFine (w .hub .store) m (w .ends s) = subst (λ o. Enrolled (w .hub .store) o (w .ends s)) (r .enrolled) (i .each s .1) in
         let said : spoken (take (c .size) (composedBytes (w .hub) s buf)) ≡ Some (wordsFor (w .hub) m, told (recordsFor (w .hub .store) m)) =
         ap spoken (r .bytes) ∙ packet-says (w .hub) m (words-fit (w .hub) m (w .ends s) (i .site) f) (ap (λ (x : Site). major (x .version)) (i .site) ∙ version) (i .lawful)
-        (all-map (λ x q. q .fits) (m .items) (f .items)) (f .short) in
+        (all-then (λ x q. q .fits) (m .items) (f .items)) (f .short) in
         record { index = refl; number = ap numberIn said; says = ap messagesIn said }
 
     keep-composes : (w : World) (s : ℕ) (buf : List ℕ) (c : Composition) (g : HubModel) → compose (w .hub) s buf ≡ Ok (c, g) → Holds words w
@@ -263,7 +263,7 @@ module _ (words : Site) where
         let r = set-is (w .hub) a half v g p in
         subst (λ h. Holds words (withPast ((slot half a, v) ∷ w .past) (withHub h w))) (sym (r .1)) (keep-sets w a half v (r .0) i)
     keep {w} (world.Move.setsControl id word g p) i = keep-control w id word g p i
-    keep {w} (world.Move.takesEvent s p rest d ms count g q said from taken) i = keep-event w s p rest d ms count g q said from taken i
+    keep {w} (world.Move.takesEvent s p rest d ms told count g q said from zero taken) i = keep-event w s p rest d ms told count g q said from zero taken i
     keep {w} (world.Move.takesAnswer s p rest d ms told count g q said from n taken time) i = keep-answer w s p rest d ms (told, count) g q said from n taken time i
     keep {w} (world.Move.composes s buf c g p) i = keep-composes w s buf c g p i
     keep {w} (world.Move.sends s number g p) i =

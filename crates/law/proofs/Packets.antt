@@ -9,6 +9,8 @@ use native.Mathlib.Omega.{arith}
 use lib.IntN.{ℤ}
 use Rattle.std.specs.declared.option.Option.{Option}
 use Rattle.std.specs.declared.option.Option.the-variants.{Some, None}
+use Rattle.std.specs.shelf.Lists.{All}
+use Rattle.std.proofs.shelf.Elements.{all-push}
 use Rattle.store.specs.Meaning.{Known}
 use Rattle.model.specs.declared.item.Item.{Item}
 use Rattle.model.specs.declared.mark.Change.the-variants.{Composed, Withheld}
@@ -17,12 +19,12 @@ use Rattle.model.specs.declared.mark.Mark.the-variants.{Settled, Due, UnderWay}
 use Rattle.model.specs.Composing.{broughtBack, closedSlip, composed, numberAfter, recordsFor, valuesOf}
 use Rattle.model.specs.Marks.{isOutstanding, moved}
 use Rattle.model.specs.Models.{SwitchModel, listsActor}
-use Rattle.law.specs.Values.{All, spoken}
+use Rattle.law.specs.Values.{spoken}
 use Rattle.law.specs.World as world
 use Rattle.law.specs.World.{About, End, Packet, Payload, delivers, discarded, issued, joined, lost, withLineTo}
 use Rattle.law.proofs.Brought.{Agrees, Full, Silent, bring-silent, show-agrees, show-silent}
 use Rattle.law.proofs.Changes.{still-short}
-use Rattle.law.proofs.Elements.{all-front, all-map, all-push, cons≢nil}
+use Rattle.law.proofs.Elements.{all-front, all-then, cons≢nil}
 use Rattle.law.proofs.Flights.{between-below, between-front, between-le, between-push, delivered-below, next-number, nothing-ahead}
 use Rattle.law.proofs.Invariant.{AboutFine, Between, Enrolled, Here, Lines, MarkFine, PayloadFine, SwitchFine, flight, numberIn, numberOf, saidBy}
 use Rattle.law.proofs.Items.{items-moved, items-stay, same-mark}
@@ -50,9 +52,9 @@ module _ (st : Known) (m : SwitchModel) (e : End) (p : Packet) (fresh : Fresh st
     e .lineTo .composed,
     refl,
     all-push (λ q. q .index ≡ e .lineTo .composed → Agrees (valuesOf (st (x .actor))) (x .actor) (saidBy q) × Full (x .actor) (saidBy q)) (e .lineTo .line) p
-        (all-map (λ q h z. absurd (omega arith)) (e .lineTo .line) (between-below (l .passed) (e .lineTo .line) (e .lineTo .composed) before))
+        (all-then (λ q h z. absurd (omega arith)) (e .lineTo .line) (between-below (l .passed) (e .lineTo .line) (e .lineTo .composed) before))
         (λ z. subst (λ ms. Agrees (valuesOf (st (x .actor))) (x .actor) ms × Full (x .actor) ms) (sym (fresh .says))
-        (writes-agree st (x .actor) m, writes-full st (x .actor) m (all-map (λ y q z. ap isOutstanding (q z) ∙ o) (m .items) same) listed)),
+        (writes-agree st (x .actor) m, writes-full st (x .actor) m (all-then (λ y q z. ap isOutstanding (q z) ∙ o) (m .items) same) listed)),
     λ d. let x = delivered-below (l .passed) (e .lineTo .composed) (e .lineTo .delivered) (l .behind) d in let y = between-le (l .passed) (e .lineTo .line) (e .lineTo .composed) before in absurd (omega arith),
   )
 
@@ -61,7 +63,7 @@ module _ (st : Known) (m : SwitchModel) (e : End) (p : Packet) (fresh : Fresh st
   mark-composed x same listed Settled q g = (
     g .0,
     all-push (λ r. Silent (x .actor) (saidBy r)) (e .lineTo .line) p (all-front (λ r. Silent (x .actor) (saidBy r)) (e .lineTo .line) (e .lineTo .waiting) (g .1))
-        (subst (Silent (x .actor)) (sym (fresh .says)) (writes-silent st (x .actor) m (all-map (λ y r z. ap isOutstanding (r z ∙ q)) (m .items) same))),
+        (subst (Silent (x .actor)) (sym (fresh .says)) (writes-silent st (x .actor) m (all-then (λ y r z. ap isOutstanding (r z ∙ q)) (m .items) same))),
   )
   mark-composed x same listed Due q g = under-way x same listed (ap isOutstanding q)
   mark-composed x same listed UnderWay q g = under-way x same listed (ap isOutstanding q)
@@ -181,7 +183,7 @@ here-lost st o e p rest q h =
     let b = subst (λ x. Between (l .passed) (x ++ e .lineTo .waiting) (e .lineTo .composed)) q (l .ahead) in (
       record {
         passed = suc (p .index);
-        behind = all-map (λ d x. (let y = x .0 in let z = b .0 in omega arith, x .1)) _ (l .behind);
+        behind = all-then (λ d x. (let y = x .0 in let z = b .0 in omega arith, x .1)) _ (l .behind);
         ahead = b .2;
         coming = l .coming;
         taken = l .taken;
@@ -225,10 +227,10 @@ here-delivered st o e p rest q h =
     let b = subst (λ x. Between (l .passed) (x ++ e .lineTo .waiting) (e .lineTo .composed)) q (l .ahead) in (
       record {
         passed = suc (p .index);
-        behind = ((le-refl (suc (p .index)), b .1), all-map (λ d x. (let y = x .0 in let z = b .0 in omega arith, x .1)) _ (l .behind));
+        behind = ((le-refl (suc (p .index)), b .1), all-then (λ d x. (let y = x .0 in let z = b .0 in omega arith, x .1)) _ (l .behind));
         ahead = b .2;
-        coming = all-map (payload-later _ _ p) _ (l .coming);
-        taken = all-map (payload-later _ _ p) _ (l .taken);
+        coming = all-then (payload-later _ _ p) _ (l .coming);
+        taken = all-then (payload-later _ _ p) _ (l .taken);
       },
       switch-stays st o e (delivers p rest e) refl refl (mark-delivered e p rest q l) (h .1),
     )

@@ -11,6 +11,7 @@ use lib.ListN.{take}
 use Rattle.std.specs.declared.option.Option.{Option}
 use Rattle.std.specs.declared.option.Option.the-variants.{Some, None}
 use Rattle.std.specs.declared.result.Result.the-variants.{Ok}
+use Rattle.std.specs.shelf.Lists.{All}
 use Rattle.std.proofs.shelf.Tests.{eq-eqb, eqb-false, eqb-true, ne-eqb, or-from, true≢false}
 use Rattle.packet.specs.declared.records.Message.{Message}
 use Rattle.packet.specs.declared.words.Descriptor.{Descriptor}
@@ -21,7 +22,6 @@ use Rattle.model.specs.declared.item.Item.{Item}
 use Rattle.model.specs.declared.mark.Change.the-variants.{Answered, Composed}
 use Rattle.model.specs.declared.mark.Mark.the-variants.{Settled, Due}
 use Rattle.model.specs.declared.told.Arrival.{Arrival}
-use Rattle.model.specs.declared.told.Arrival.the-variants as arrival
 use Rattle.model.specs.declared.told.Site.{Site}
 use Rattle.model.specs.Composing.{broughtBack, closedSlip, composed, composedBytes, hasOutstanding, isOpenSlip}
 use Rattle.model.specs.Marks.{isOutstanding}
@@ -29,13 +29,13 @@ use Rattle.model.specs.Models.{HubModel, SwitchModel, anyOutstanding, atSwitch,
 use Rattle.model.specs.Opening.{newSwitch}
 use Rattle.model.specs.Settings.{atEnrolled, setValue}
 use Rattle.model.specs.Taking.{answered, takePayload}
-use Rattle.law.specs.Values.{All, Any, Edits, Inits, spoken}
+use Rattle.law.specs.Values.{Any, Edits, Inits, spoken}
 use Rattle.law.specs.World as world
 use Rattle.law.specs.World.{About, End, Move, Packet, Payload, World, accepts, delivers, discarded, issued, joined, lost, packetNow, withLineTo}
 use Rattle.law.specs.Law as law
 use Rattle.law.specs.Law.{Lists, Quiet, Quietly, Settling, SiteFits}
 use Rattle.law.proofs.Answers.{head-fine, settledBy}
-use Rattle.law.proofs.Elements.{all-map, all-mapped, none≢some}
+use Rattle.law.proofs.Elements.{all-then, all-mapped, none≢some}
 use Rattle.law.proofs.Flights.{between-below, between-last, between-le, delivered-below, number≢0}
 use Rattle.law.proofs.Granted.{compose-is, control-is, enrol-is, refused-leaves, sent-is, set-is, withheld-is}
 use Rattle.law.proofs.Held.{Lawful}
@@ -62,7 +62,7 @@ clear-answer : (m : SwitchModel) → Clear m → hasOutstanding m ≡ false
 clear-answer m c = or-from (anyOutstanding (m .items)) (isOutstanding (m .mark)) (none-outstanding (m .items) (c .0)) (ap isOutstanding (c .1))
 
 clear-none-due : (m : SwitchModel) → Clear m → NoneDue m
-clear-none-due m c = (all-map (λ x p e. settled≢due (sym p ∙ e)) (m .items) (c .0), λ e. settled≢due (sym (c .1) ∙ e))
+clear-none-due m c = (all-then (λ x p e. settled≢due (sym p ∙ e)) (m .items) (c .0), λ e. settled≢due (sym (c .1) ∙ e))
 
 answered-clear : (m : SwitchModel) → NoneDue m → Clear (answered m)
 answered-clear m d = (all-mapped (movedItem Answered) (λ x. x .mark ≡ Settled) (λ x p. settled-answered (x .mark) p) (m .items) (d .0), settled-answered (m .mark) (d .1))
@@ -172,7 +172,7 @@ module _ (k : ℕ) where
           let i : p .index ≡ k = (let y = r .2 in let z = x .0 in omega arith) in
           let b = between-last (l .passed) (e .lineTo .line) p (e .lineTo .composed) (subst (λ y. Between (l .passed) (e .lineTo .line ++ y) (e .lineTo .composed)) (r .1) (l .ahead)) in (
             subst (All (λ q. q .index ≡ k → ⊥)) (sym (append-nil (e .lineTo .line)))
-                (all-map (λ q y z. omega arith) (e .lineTo .line) (between-below (l .passed) (e .lineTo .line) (p .index) b)),
+                (all-then (λ q y z. omega arith) (e .lineTo .line) (between-below (l .passed) (e .lineTo .line) (p .index) b)),
             λ d. let y = delivered-below (l .passed) k (e .lineTo .delivered) (l .behind) d in let z = between-le (l .passed) (e .lineTo .line) (p .index) b in omega arith,
           )
 
@@ -183,12 +183,12 @@ module _ (k : ℕ) where
       (subst (λ o. Waits o (w .ends s)) (sym (find-map (touched a) (λ m. refl) s (w .hub .switches) ∙ ap (mapped (touched a)) (r .1)))
       (waits-kept (r .0) (touched a (r .0)) (w .ends s) (kept-untouched (r .0) a (λ l. q (r .0, r .1, l))) (subst (λ o. Waits o (w .ends s)) (r .1) y)))
 
-  waits-event : (s : ℕ) (w : World) (t : ℕ) (p : Payload) (rest : List Payload) (d : Descriptor) (ms : List Message) (count : ℕ) (g : HubModel)
-      → spoken (p .bytes) ≡ Some (d, ms) → d .switch ≡ t → takePayload (w .hub) (p .bytes) ≡ Ok ((arrival.Event, count), g)
+  waits-event : (s : ℕ) (w : World) (t : ℕ) (p : Payload) (rest : List Payload) (d : Descriptor) (ms : List Message) (told : Arrival) (count : ℕ) (g : HubModel)
+      → spoken (p .bytes) ≡ Some (d, ms) → d .switch ≡ t → d .number ≡ 0 → takePayload (w .hub) (p .bytes) ≡ Ok ((told, count), g)
       → ((a : ℕ) → Lists w s a → Any (Edits a) ms → ⊥) × (t ≡ s → Any Inits ms → ⊥)
       → WaitsAt w s → Waits (findSwitch s (g .switches)) (cond (eqb t s) (accepts p rest (w .ends t)) (w .ends s))
-  waits-event s w t p rest d ms count g said from taken q y =
-      let r = event-is (w .hub) (p .bytes) d ms count g said taken .1 in
+  waits-event s w t p rest d ms told count g said from zero taken q y =
+      let r = event-is (w .hub) (p .bytes) d ms told count g said zero taken in
       let m = waiting-switch (findSwitch s (w .hub .switches)) (w .ends s) y in
       let n = hear-quiet s t ms (w .hub) (m .0) (m .1) (λ a l. q .0 a (m .0, m .1, l)) (q .1) in
       subst (λ h. Waits (findSwitch s (h .switches)) (cond (eqb t s) (accepts p rest (w .ends t)) (w .ends s))) (sym (r .after ∙ ap (λ (x : ℕ). hearAll x ms (w .hub)) from))
@@ -220,7 +220,7 @@ module _ (k : ℕ) where
   waits-move site s {w} (world.Move.setsControl id word g p) i q y =
       subst (λ h. Waits (findSwitch s (h .switches)) (w .ends s)) (sym (control-is (w .hub) id word g p))
       (subst (λ o. Waits o (w .ends s)) (sym (find-at-other id s (withControl word) (λ m. refl) q (w .hub .switches))) y)
-  waits-move site s {w} (world.Move.takesEvent t p rest d ms count g head said from taken) i q y = waits-event s w t p rest d ms count g said from taken q y
+  waits-move site s {w} (world.Move.takesEvent t p rest d ms told count g head said from zero taken) i q y = waits-event s w t p rest d ms told count g said from zero taken q y
   waits-move site s {w} (world.Move.takesAnswer t p rest d ms told count g head said from n taken time) i q y = waits-answer s w t p rest d ms (told, count) g said from n taken y
   waits-move site s {w} (world.Move.composes t buf c g p) i q y =
       let r = compose-is (w .hub) t buf c g p in

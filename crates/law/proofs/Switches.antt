@@ -9,7 +9,6 @@ use Rattle.std.specs.declared.option.Option.{Option}
 use Rattle.std.specs.declared.option.Option.the-variants.{Some, None}
 use Rattle.std.proofs.shelf.Tests.{cases-eq, eqb-false, eqb-true, ne-eqb}
 use Rattle.model.specs.Models.{SwitchModel, atSwitch, findSwitch}
-use Rattle.law.proofs.Elements.{none≢some, some-inj}
 
 abbrev pub mapped : (SwitchModel → SwitchModel) → Option SwitchModel → Option SwitchModel
 mapped f None = None
@@ -28,14 +27,6 @@ find-map f k s (m ∷ ms) =
     go : (b : Bool) → findSwitch s (map f ms) ≡ mapped f (findSwitch s ms) → cond b (Some (f m)) (findSwitch s (map f ms)) ≡ mapped f (cond b (Some m) (findSwitch s ms))
     go true ih = refl
     go false ih = ih
-
-pub find-id : (s : ℕ) (ms : List SwitchModel) (m : SwitchModel) → findSwitch s ms ≡ Some m → m .id ≡ s
-find-id s [] m p = absurd (none≢some p)
-find-id s (n ∷ ms) m p = go (eqb (n .id) s) refl (find-id s ms m) p
-  where
-    go : (b : Bool) → eqb (n .id) s ≡ b → (findSwitch s ms ≡ Some m → m .id ≡ s) → cond b (Some n) (findSwitch s ms) ≡ Some m → m .id ≡ s
-    go true e ih q = ap (λ (x : SwitchModel). x .id) (sym (some-inj q)) ∙ eqb-true (n .id) s e
-    go false e ih q = ih q
 
 -- a step at switch s: the look-up of s sees it, any other does not
 pub find-at-same : (s : ℕ) (f : SwitchModel → SwitchModel) → KeepsId f → (ms : List SwitchModel) → findSwitch s (atSwitch s f ms) ≡ mapped f (findSwitch s ms)

@@ -8,7 +8,7 @@ use Rattle.std.specs.declared.option.Option.{Option}
 use Rattle.std.specs.declared.option.Option.the-variants.{Some, None}
 use Rattle.std.specs.declared.result.Result.{Result}
 use Rattle.std.specs.declared.result.Result.the-variants.{Ok, Err}
-use Rattle.std.proofs.shelf.Tests.{eqb-true, ne-eqb}
+use Rattle.std.proofs.shelf.Tests.{eq-eqb, ne-eqb}
 use Rattle.fault.specs.declared.Fault.{Fault}
 use Rattle.packet.specs.declared.records.Message.{Message}
 use Rattle.packet.specs.declared.words.Descriptor.{Descriptor}
@@ -86,11 +86,6 @@ event-parts : (o : Option ℕ) (count : ℕ) (g : HubModel) (x : (Arrival × ℕ
 event-parts None count g x e = (refl, ok-inj e)
 event-parts (Some place) count g x e = absurd (err≢ok e)
 
-abbrev IsEvent : Arrival → Type 0
-IsEvent arrival.Event = Unit {0}
-IsEvent arrival.Answer = ⊥
-IsEvent arrival.Stale = ⊥
-
 -- an accepted event: its switch is enrolled and lists the actors of its messages, which were heard in order and counted
 pub record Heard (h : HubModel) (d : Descriptor) (ms : List Message) (count : ℕ) (g : HubModel) : Type 0 where
   pub switch : SwitchModel
@@ -99,31 +94,21 @@ pub record Heard (h : HubModel) (d : Descriptor) (ms : List Message) (count : �
   pub counted : count ≡ countKnown ms
   pub after : g ≡ hearAll (d .switch) ms h
 
-pub event-is : (h : HubModel) (s : List ℕ) (d : Descriptor) (ms : List Message) (count : ℕ) (g : HubModel)
-    → spoken s ≡ Some (d, ms) → takePayload h s ≡ Ok ((arrival.Event, count), g) → (d .number ≡ 0) × Heard h d ms count g
-event-is h s d ms count g said e =
+pub event-is : (h : HubModel) (s : List ℕ) (d : Descriptor) (ms : List Message) (told : Arrival) (count : ℕ) (g : HubModel)
+    → spoken s ≡ Some (d, ms) → d .number ≡ 0 → takePayload h s ≡ Ok ((told, count), g) → Heard h d ms count g
+event-is h s d ms told count g said zero e =
     let t = taken-parts h s d ms _ said e in
-    go (t .0) (t .1) (eqb (d .number) 0) refl (t .2) (t .3) (t .4)
-  where
-    no-answer : (m : SwitchModel) (places : List (ℕ × Message)) (b : Bool)
-        → _≡_ {A = Step (Arrival × ℕ)} (cond b (Ok ((arrival.Answer, understood places), changeSwitch (d .switch) answered h)) (Ok ((arrival.Stale, understood places), h))) (Ok ((arrival.Event, count), g)) → ⊥
-    no-answer m places true q = subst (λ (x : (Arrival × ℕ) × HubModel). IsEvent (x .0 .0)) (sym (ok-inj q)) tt
-    no-answer m places false q = subst (λ (x : (Arrival × ℕ) × HubModel). IsEvent (x .0 .0)) (sym (ok-inj q)) tt
-
-    go : (m : SwitchModel) (places : List (ℕ × Message)) (b : Bool) → eqb (d .number) 0 ≡ b → findSwitch (d .switch) (h .switches) ≡ Some m → bare places ≡ ms
-        → cond b (takeEvent h m (d .switch) places) (takeAnswer h m (d .switch) (d .number) places) ≡ Ok ((arrival.Event, count), g) → (d .number ≡ 0) × Heard h d ms count g
-    go m places true z f q r =
-        let p = event-parts _ _ _ _ r in (
-          eqb-true (d .number) 0 z,
-          record {
-            switch = m;
-            enrolled = f;
-            listed = ap (allListed (m .items)) (sym q) ∙ listed-bare (m .items) places (p .0);
-            counted = ap (λ (x : (Arrival × ℕ) × HubModel). x .0 .1) (sym (p .1)) ∙ understood-bare places ∙ ap countKnown q;
-            after = ap (λ (x : (Arrival × ℕ) × HubModel). x .1) (sym (p .1)) ∙ heard-bare (d .switch) places h ∙ ap (λ (l : List Message). hearAll (d .switch) l h) q;
-          },
-        )
-    go m places false z f q r = absurd (no-answer m places _ r)
+    let m = t .0 in
+    let places = t .1 in
+    let q = t .3 in
+    let p = event-parts _ _ _ _ (subst (λ (b : Bool). cond b (takeEvent h m (d .switch) places) (takeAnswer h m (d .switch) (d .number) places) ≡ Ok ((told, count), g)) (eq-eqb (d .number) 0 zero) (t .4)) in
+    record {
+      switch = m;
+      enrolled = t .2;
+      listed = ap (allListed (m .items)) (sym q) ∙ listed-bare (m .items) places (p .0);
+      counted = ap (λ (x : (Arrival × ℕ) × HubModel). x .0 .1) (sym (p .1)) ∙ understood-bare places ∙ ap countKnown q;
+      after = ap (λ (x : (Arrival × ℕ) × HubModel). x .1) (sym (p .1)) ∙ heard-bare (d .switch) places h ∙ ap (λ (l : List Message). hearAll (d .switch) l h) q;
+    }
 
 -- an accepted answer: the awaited number settles, any other changes nothing
 abbrev pub answeredIf : ℕ → SwitchModel → HubModel → ℕ → HubModel

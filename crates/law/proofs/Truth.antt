@@ -8,6 +8,7 @@ use native.Mathlib.Nat.{le-refl}
 use lib.Dec.{eqb}
 use Rattle.std.specs.declared.option.Option.the-variants.{Some}
 use Rattle.std.specs.declared.result.Result.the-variants.{Ok}
+use Rattle.std.specs.shelf.Lists.{All}
 use Rattle.std.proofs.shelf.Tests.{eqb-true, true≢false}
 use Rattle.packet.specs.Words.{major}
 use Rattle.store.specs.declared.meaning.Half.the-variants.{Actual, Target}
@@ -20,7 +21,7 @@ use Rattle.model.specs.Composing.{valuesOf}
 use Rattle.model.specs.Models.{listsActor, markOfActor}
 use Rattle.model.specs.Questions.{actorMark, listedMark}
 use Rattle.model.specs.Settings.{atEnrolled}
-use Rattle.law.specs.Values.{All, lastAccepted, slot}
+use Rattle.law.specs.Values.{lastAccepted, slot}
 use Rattle.law.specs.World.{End}
 use Rattle.law.specs.Law.{Excused, ReportedOutstanding, Shows, SiteFits, Truth, opening}
 use Rattle.law.proofs.Held.{Lawful}

@@ -9,6 +9,7 @@ use lib.Dec.{eqb}
 use lib.ListN.{length}
 use Rattle.std.specs.Joined.{joined}
 use Rattle.std.specs.declared.option.Option.the-variants.{Some}
+use Rattle.std.specs.shelf.Lists.{All}
 use Rattle.std.proofs.shelf.Tests.{eqb-true, ne-eqb, not-from-false, or-cases, true≢false}
 use Rattle.packet.specs.declared.records.Message.{Message}
 use Rattle.packet.specs.declared.records.Message.the-variants as message
@@ -24,7 +25,7 @@ use Rattle.model.specs.declared.item.Item.{Item}
 use Rattle.model.specs.Composing.{actorRecords, itemRecords, packetFor, recordsFor, valuesOf, wordsFor}
 use Rattle.model.specs.Marks.{isOutstanding}
 use Rattle.model.specs.Models.{HubModel, SwitchModel, listsActor}
-use Rattle.law.specs.Values.{All, dropOffsets, slot, spoken}
+use Rattle.law.specs.Values.{dropOffsets, slot, spoken}
 use Rattle.law.proofs.Brought.{Agrees, Full, Silent}
 use Rattle.law.proofs.Held.{Lawful, values-fit}
 use Rattle.law.proofs.Taken.{bare}

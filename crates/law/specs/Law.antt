@@ -13,7 +13,6 @@ use Rattle.store.specs.declared.meaning.Half.the-variants.{Actual, Target}
 use Rattle.store.specs.Meaning as store
 use Rattle.model.specs.declared.mark.Mark.{Mark}
 use Rattle.model.specs.declared.told.Arrival.{Arrival}
-use Rattle.model.specs.declared.told.Arrival.the-variants as arrival
 use Rattle.model.specs.declared.told.Site.{Site}
 use Rattle.model.specs.Composing.{Composition, compose, composedBytes}
 use Rattle.model.specs.Marks.{isOutstanding}
@@ -72,8 +71,8 @@ Truth site st =
 -- messages dealt over accepted events of switch s, from hub h: the hub that they leave, and the total of understood messages
 pub data Dealt (s : ℕ) (h : HubModel) : List Message → HubModel → ℕ → Type 0 where
   nothing : Dealt s h [] h 0
-  packet : {ms : List Message} {g : HubModel} {n : ℕ} → Dealt s h ms g n → (payload : List ℕ) (d : Descriptor) (more : List Message) (count : ℕ) (k : HubModel)
-      → spoken payload ≡ Some (d, more) → d .switch ≡ s → takePayload g payload ≡ Ok ((arrival.Event, count), k) → Dealt s h (ms ++ more) k (n + count)
+  packet : {ms : List Message} {g : HubModel} {n : ℕ} → Dealt s h ms g n → (payload : List ℕ) (d : Descriptor) (more : List Message) (told : Arrival) (count : ℕ) (k : HubModel)
+      → spoken payload ≡ Some (d, more) → d .switch ≡ s → d .number ≡ 0 → takePayload g payload ≡ Ok ((told, count), k) → Dealt s h (ms ++ more) k (n + count)
 
 abbrev pub Dealing : Type 0
 Dealing =
@@ -88,7 +87,7 @@ abbrev pub Quiet : (s : ℕ) {w u : World} → Move w u → Type 0
 Quiet s (world.Move.enrols id list g _ _ _) = Unit {0}
 Quiet s {w} (world.Move.sets half a v g _) = Lists w s a → ⊥
 Quiet s (world.Move.setsControl id word g _) = id ≡ s → ⊥
-Quiet s {w} (world.Move.takesEvent t p rest d ms count g _ _ _ _) = ((a : ℕ) → Lists w s a → Any (Edits a) ms → ⊥) × (t ≡ s → Any Inits ms → ⊥)
+Quiet s {w} (world.Move.takesEvent t p rest d ms told count g _ _ _ _ _) = ((a : ℕ) → Lists w s a → Any (Edits a) ms → ⊥) × (t ≡ s → Any Inits ms → ⊥)
 Quiet s (world.Move.takesAnswer t p rest d ms told count g _ _ _ _ _ _) = Unit {0}
 Quiet s (world.Move.composes t buf c g _) = t ≡ s → ⊥
 Quiet s (world.Move.sends t number g _) = Unit {0}

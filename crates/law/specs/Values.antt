@@ -24,11 +24,7 @@ use Rattle.store.specs.Meaning.{lawful}
 use Rattle.model.specs.Composing.{valuesOf}
 use Rattle.model.specs.Taking.{asksInit}
 
--- something holds of each element; of some element
-abbrev pub All : {A : Type 0} → (A → Type 0) → List A → Type 0
-All P [] = Unit {0}
-All P (x ∷ xs) = P x × All P xs
-
+-- something holds of some element
 abbrev pub Any : {A : Type 0} → (A → Type 0) → List A → Type 0
 Any P [] = ⊥
 Any P (x ∷ xs) = P x ⊎ Any P xs

@@ -9,6 +9,7 @@ use lib.ListN.{length, take}
 use Rattle.std.specs.declared.option.Option.{Option}
 use Rattle.std.specs.declared.option.Option.the-variants.{Some, None}
 use Rattle.std.specs.declared.result.Result.the-variants.{Ok, Err}
+use Rattle.std.specs.shelf.Lists.{All}
 use Rattle.fault.specs.declared.Fault.{Fault}
 use Rattle.packet.specs.declared.records.Message.{Message}
 use Rattle.packet.specs.declared.records.Message.the-variants.{Known}
@@ -19,13 +20,12 @@ use Rattle.store.specs.declared.meaning.Half.the-variants.{Target}
 use Rattle.store.specs.Meaning as store
 use Rattle.store.specs.Meaning.{lawful}
 use Rattle.model.specs.declared.told.Arrival.{Arrival}
-use Rattle.model.specs.declared.told.Arrival.the-variants as arrival
 use Rattle.model.specs.Composing.{Composition, compose, composedBytes, sent, withheld}
 use Rattle.model.specs.Models.{HubModel, hubAfter}
 use Rattle.model.specs.Opening.{enrol}
 use Rattle.model.specs.Settings.{setControl, setValue}
 use Rattle.model.specs.Taking.{takePayload}
-use Rattle.law.specs.Values.{All, Any, Slot, broughtBy, noteAll, sameSlot, showAll, slot, spoken}
+use Rattle.law.specs.Values.{Any, Slot, broughtBy, noteAll, sameSlot, showAll, slot, spoken}
 
 -- A packet for a switch: how many were composed for that switch before it, how many values had been accepted at its compose, and its bytes.
 pub record Packet : Type 0 where
@@ -204,9 +204,9 @@ pub data Move (w : World) : World → Type 0 where
   enrols : (id : ℕ) (list : List ℕ) (g : HubModel) → id < 2 ^ 16 → All (λ a. a < 2 ^ 16) list → enrol (w .hub) id list ≡ Ok (tt, g) → Move w (withHub g w)
   sets : (half : Half) (a : ℕ) (v : ℤ) (g : HubModel) → setValue (w .hub) a half v ≡ Ok (tt, g) → Move w (withPast ((slot half a, v) ∷ w .past) (withHub g w))
   setsControl : (id word : ℕ) (g : HubModel) → setControl (w .hub) id word ≡ Ok (tt, g) → Move w (withHub g w)
-  -- What take accepts under a SwitchID is the head of that switch's line.
-  takesEvent : (s : ℕ) (p : Payload) (rest : List Payload) (d : Descriptor) (ms : List Message) (count : ℕ) (g : HubModel)
-      → w .ends s .lineFrom ≡ p ∷ rest → spoken (p .bytes) ≡ Some (d, ms) → d .switch ≡ s → takePayload (w .hub) (p .bytes) ≡ Ok ((arrival.Event, count), g)
+  -- What take accepts under a SwitchID is the head of that switch's line: an event if its PackageID is 0, else an answer, whatever take tells of it.
+  takesEvent : (s : ℕ) (p : Payload) (rest : List Payload) (d : Descriptor) (ms : List Message) (told : Arrival) (count : ℕ) (g : HubModel)
+      → w .ends s .lineFrom ≡ p ∷ rest → spoken (p .bytes) ≡ Some (d, ms) → d .switch ≡ s → d .number ≡ 0 → takePayload (w .hub) (p .bytes) ≡ Ok ((told, count), g)
       → Move w (withEnd s (accepts p rest (w .ends s)) (withPast (noteAll ms (w .past)) (withHub g w)))
   takesAnswer : (s : ℕ) (p : Payload) (rest : List Payload) (d : Descriptor) (ms : List Message) (told : Arrival) (count : ℕ) (g : HubModel)
       → w .ends s .lineFrom ≡ p ∷ rest → spoken (p .bytes) ≡ Some (d, ms) → d .switch ≡ s → (d .number ≡ 0 → ⊥) → takePayload (w .hub) (p .bytes) ≡ Ok ((told, count), g)

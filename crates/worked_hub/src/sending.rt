@@ -26,11 +26,13 @@ pub(crate) fn send<S: ActorStore>(
     buf: &mut [u8],
 ) -> Result<(usize, usize, u16), Fault> {
     match hub.compose(id, buf) {
-        Ok(Composed {
-            length,
-            actors,
-            slip,
-        }) => {
+        Ok(
+            Composed {
+                length,
+                actors,
+                slip,
+            },
+        ) => {
             let number = slip.number();
             hand_in(hub, slip);
             Ok((length, actors, number))
