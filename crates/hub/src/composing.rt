@@ -1,9 +1,6 @@
 // Composing a packet for a switch.
 ghost use mathlib.Core.Path.{_≡_};
-ghost use mathlib.Core.List.{_++_};
-ghost use Prim.Native.Nat.{_≤_};
-ghost use lib.ListN.{drop, length};
-ghost use Rattle.model.specs.Composing.{compose as composeStep, composeFor, composedBytes, packetFor, packetOver, wordsFor};
+ghost use Rattle.model.specs.Composing.{compose as composeStep, composeFor, composedBytes, packetOver, wordsFor};
 ghost use Rattle.model.specs.Models.{hubAfter};
 ghost use Rattle.switch.specs.Memory.{switchModel};
 ghost use Rattle.std.specs.declared.option.Option.the-variants.{Some};

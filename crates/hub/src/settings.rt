@@ -49,6 +49,7 @@ impl<S: ActorStore> Hub<S> {
     {
         self.set_value(actor, Half::Target, value)
     }
+
     // Sets the control word of a switch.
     pub fn set_control(&mut self, id: u16, word: u32) -> Result<(), Fault>
         ensures answer { λ r. ⌜ r ≡ answerOf (setControl (hubModel (S·ActorStore .meaning) (now (self .entry))) id word) ⌝ }

@@ -111,6 +111,7 @@ impl<S: ActorStore> Hub<S> {
             Record::Control(_) | Record::RealValue { .. } => {}
         }
     }
+
     // The applying pass, over a payload whose messages all read.
     fn hear_all(&mut self, id: u16, payload: &[u8])
         requires { ⌜ isOk (messagesFrom (now payload) 16) ≡ true ⌝ }
@@ -121,6 +122,7 @@ impl<S: ActorStore> Hub<S> {
             self.hear(id, message);
         }
     }
+
     // An event, every message of which was checked: nothing of it is applied if one is for an actor not listed.
     fn take_event(
         &mut self,

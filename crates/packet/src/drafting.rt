@@ -129,6 +129,7 @@ impl Draft {
         write_open(buf, words);
         Ok(Draft { behind: 0 })
     }
+
     // Adds a message of kind K. A refusal gives the draft back, and nothing is written.
     pub fn append<K: Kind>(
         self,
@@ -151,6 +152,7 @@ impl Draft {
             behind: behind + K::message_len() as usize,
         })
     }
+
     // Adds a record, whatever its kind.
     pub fn add(self, buf: &mut [u8], record: Record) -> Result<Draft, (Fault, Draft)>
         ensures answer { λ r. ⌜ r ≡ added «record» self (now (buf .entry)) ⌝ }

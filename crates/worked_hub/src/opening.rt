@@ -41,6 +41,7 @@ fn enrolments() -> Result<(), Fail> {
     for id in 100..130u16 {
         hub.enrol(id, &[1])?;
     }
+
     // the room is looked at before the list, and the ID before the room
     check_eq(refused(hub.enrol(130, &[])), Some((15, 0)))?;
     check_eq(refused(hub.enrol(129, &[])), Some((14, 0)))

@@ -131,6 +131,36 @@ fn refused_descriptors() -> Result<(), Fail> {
     check_eq(told(&mut hub, &switch), Err((6, 12)))
 }
 
+// A State with flag 1, an EditValue for actor 2, which is listed, an Event for actor 1 and an EditValue for actor 4, which are not.
+const UNLISTED: [u8; 26] = [
+    0x08,
+    0x01,
+    0,
+    0,
+    1,
+    0,
+    0,
+    0,
+    0x06,
+    0x42,
+    2,
+    0,
+    1,
+    0,
+    0x06,
+    0x51,
+    1,
+    0,
+    1,
+    0,
+    0x06,
+    0x42,
+    4,
+    0,
+    1,
+    0,
+];
+
 // Each time the first message would have acted: a State with flag 1.
 #[test]
 fn refused_messages() -> Result<(), Fail> {
@@ -155,41 +185,6 @@ fn refused_messages() -> Result<(), Fail> {
         ),
         Err((9, 24)),
     )?;
-    // actor 2 is listed; actor 1, and actor 4 behind it, are not
-    check_eq(
-        behind(
-            &mut hub,
-            0,
-            &[
-                0x08,
-                0x01,
-                0,
-                0,
-                1,
-                0,
-                0,
-                0,
-                0x06,
-                0x42,
-                2,
-                0,
-                1,
-                0,
-                0x06,
-                0x51,
-                1,
-                0,
-                1,
-                0,
-                0x06,
-                0x42,
-                4,
-                0,
-                1,
-                0,
-            ],
-        ),
-        Err((10, 30)),
-    )?;
+    check_eq(behind(&mut hub, 0, &UNLISTED), Err((10, 30)))?;
     check_eq(hub.flags(8)?, 0)
 }
