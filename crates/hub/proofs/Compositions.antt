@@ -1,5 +1,5 @@
 -- Composing for a switch whose slip is in and for which something is outstanding: the buffer's length decides.
-use mathlib.Core.Path.{_≡_, sym, ap, _∙_}
+use mathlib.Core.Path.{_≡_, ap, _∙_}
 use mathlib.Core.Bool.{true, false, not}
 use mathlib.Core.List.{List}
 use Prim.Native.Nat.{ℕ, _<_, _≤_}
@@ -12,7 +12,7 @@ use Rattle.std.specs.declared.result.Result.the-variants.{Ok, Err}
 use Rattle.fault.specs.declared.CallFault.the-variants.{ShortBuffer}
 use Rattle.fault.specs.declared.Fault.{Fault}
 use Rattle.fault.specs.declared.Fault.the-variants.{Call}
-use Rattle.model.specs.Composing.{composeFor, composed, compositionFor, hasOutstanding, recordsFor, wordsFor}
+use Rattle.model.specs.Composing.{composeFor, composed, compositionFor, hasOutstanding, wordsFor}
 use Rattle.model.specs.Models.{HubModel, SwitchModel, changeSwitch}
 use Rattle.hub.specs.Compositions.{composition, packetLength}
 use Rattle.hub.specs.declared.composing.Composed.{Composed}

@@ -7,7 +7,6 @@ use native.Mathlib.Omega.{arith}
 use lib.Dec.{eqb}
 use Rattle.std.proofs.shelf.Tests.{cond-false, cond-true, eq-eqb, ne-eqb, not-from-true}
 use Rattle.std.specs.Results.{isOk}
-use Rattle.std.specs.declared.option.Option.{Option}
 use Rattle.std.specs.declared.option.Option.the-variants.{Some}
 use Rattle.std.specs.declared.result.Result.{Result}
 use Rattle.std.specs.declared.result.Result.the-variants.{Ok, Err}
@@ -20,7 +19,7 @@ use Rattle.packet.proofs.Spelling.{same-answer}
 use Rattle.packet.specs.Words.{descriptorOf}
 use Rattle.model.specs.declared.told.Arrival.{Arrival}
 use Rattle.model.specs.declared.told.Arrival.the-variants.{Answer, Stale}
-use Rattle.model.specs.Models.{HubModel, Step, SwitchModel, answerOf, changeSwitch, findSwitch, hubAfter}
+use Rattle.model.specs.Models.{HubModel, Step, SwitchModel, changeSwitch, findSwitch}
 use Rattle.model.specs.Taking.{answered, eventUnless, takeFrom, takeMessages, takeOurs, takePayload}
 use Rattle.hub.specs.declared.taking.Survey.{Survey}
 use Rattle.hub.specs.Surveys.{heardAll, surveyOf}

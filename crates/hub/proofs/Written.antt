@@ -1,6 +1,6 @@
 -- Records written behind a draft.
 use mathlib.Core.Path.{_≡_, refl, sym, ap, subst, _∙_}
-use mathlib.Core.Bool.{Bool, true, false, cond, not, _&&_}
+use mathlib.Core.Bool.{Bool, true, false, cond, not}
 use mathlib.Core.List.{List, [], _∷_, _++_, append-assoc, append-nil}
 use Prim.Native.Nat.{ℕ, zero, suc, _+_, _*_, _<_, _≤_}
 use native.Mathlib.Omega.{arith}
@@ -13,7 +13,7 @@ use Rattle.std.specs.Joined.{joined}
 use Rattle.std.specs.declared.result.Result.the-variants.{Ok}
 use Rattle.packet.specs.declared.drafting.Draft.{Draft}
 use Rattle.packet.specs.declared.records.Record.{Record}
-use Rattle.packet.specs.declared.records.Record.the-variants.{Control, EditValue, RealValue}
+use Rattle.packet.specs.declared.records.Record.the-variants.{Control}
 use Rattle.packet.specs.declared.words.Descriptor.{Descriptor}
 use Rattle.packet.specs.Drafts as drafts
 use Rattle.packet.specs.Drafts.{Drafting, ReadsBack, RecordFits, WordsFit, added, addedBytes, begun, begunBytes, closedBytes, full, lengthOf, openBytes, over, sizeOf}

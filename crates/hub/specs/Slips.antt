@@ -5,7 +5,7 @@ use Rattle.std.specs.declared.option.Option.the-variants.{Some, None}
 use Rattle.std.specs.declared.result.Result.{Result}
 use Rattle.std.specs.declared.result.Result.the-variants.{Ok, Err}
 use Rattle.fault.specs.declared.Fault.{Fault}
-use Rattle.model.specs.Composing.{Composition, isOpenSlip}
+use Rattle.model.specs.Composing.{isOpenSlip}
 use Rattle.model.specs.Models.{HubModel, Step, SwitchModel, findSwitch}
 use Rattle.hub.specs.declared.slip.Slip.{Slip}
 

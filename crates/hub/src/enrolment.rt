@@ -7,7 +7,7 @@ ghost use lib.Dec.{eqb, leb};
 ghost use lib.ListN.{length};
 ghost use Rattle.std.specs.Options.{isSome};
 ghost use Rattle.std.specs.Vec.{made};
-ghost use Rattle.model.specs.Models.{answerOf, findSwitch, hubAfter, switchesOf, withSwitches};
+ghost use Rattle.model.specs.Models.{answerOf, hubAfter, switchesOf, withSwitches};
 ghost use Rattle.model.specs.Opening.{enrol as enrolStep, enrolFault, entryFault, newSwitch, unless};
 ghost use Rattle.store.specs.Lists.{lists};
 ghost use Rattle.hub.specs.Memory.{hubModel};

@@ -2,7 +2,7 @@
 ghost use mathlib.Core.Bool.{true};
 ghost use mathlib.Core.Path.{_≡_};
 ghost use Rattle.std.specs.Results.{isOk};
-ghost use Rattle.model.specs.Composing.{sent, withheld};
+ghost use Rattle.model.specs.Composing.{sent};
 ghost use Rattle.hub.specs.Memory.{hubModel};
 use fault::Fault;
 use hub::Composed;

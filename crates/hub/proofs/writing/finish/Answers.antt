@@ -1,10 +1,7 @@
-use mathlib.Core.Path.{_≡_, sym, ap, subst}
-use mathlib.Core.List.{List}
+use mathlib.Core.Path.{sym, ap, subst}
 use Prim.Native.Nat.{ℕ}
-use native.Mathlib.Omega.{arith}
 use lib.ListN.{take}
-use Rattle.std.proofs.shelf.Tests.{le-ltb, or-from}
-use Rattle.packet.specs.Drafts.{ReadsBack, sizeOf}
+use Rattle.packet.specs.Drafts.{ReadsBack}
 use Rattle.packet.proofs.Spelling.{past, same-answer}
 use Rattle.hub.proofs.Written.{finished}
 use Rattle.hub.proofs.writing.finish.Needs as need

@@ -1,5 +1,5 @@
 use mathlib.Core.List.{List, [], _∷_}
-use mathlib.Core.Path.{_≡_, ap, ap₂, subst, _∙_}
+use mathlib.Core.Path.{ap, ap₂, subst, _∙_}
 use lib.IntN.{ℤ}
 use mir.Syntax.{w16}
 use mir.Val.{ofZ, toZ}

@@ -1,9 +1,9 @@
-use mathlib.Core.Bool.{Bool, cond}
+use mathlib.Core.Bool.{cond}
 use mathlib.Core.List.{List, [], _∷_, _++_}
-use mathlib.Core.Path.{_≡_, sym, ap, ap₂, subst, _∙_}
-use Prim.Native.Nat.{ℕ, _+_, _*_, _≤_}
+use mathlib.Core.Path.{_≡_, sym, ap, ap₂, _∙_}
+use Prim.Native.Nat.{ℕ, _+_, _≤_}
 use native.Mathlib.Omega.{arith}
-use lib.ListN.{drop, length, take}
+use lib.ListN.{drop, take}
 use Rattle.std.proofs.shelf.Lists.{take-append-drop}
 use Rattle.packet.specs.declared.records.Record.{Record}
 use Rattle.packet.specs.declared.records.Record.the-variants.{Control}
@@ -11,11 +11,11 @@ use Rattle.packet.specs.Drafts.{sizeOf}
 use Rattle.packet.specs.Packets.{packetBytes}
 use Rattle.model.specs.declared.item.Item.{Item}
 use Rattle.model.specs.declared.mark.Mark.{Mark}
-use Rattle.model.specs.Composing.{itemRecords, outstandingActors, recordsFor}
+use Rattle.model.specs.Composing.{itemRecords, outstandingActors}
 use Rattle.model.specs.Marks.{isOutstanding}
 use Rattle.switch.specs.Memory.{switchModel}
 use Rattle.hub.specs.Compositions.{packetLength}
-use Rattle.hub.proofs.Written.{actors-few, actors-same, control-few, control-long, control-same, items-long, packet-long}
+use Rattle.hub.proofs.Written.{actors-few, actors-same, control-few, control-long, control-same, items-long}
 use Rattle.hub.proofs.writing.write_packet.Needs as need
 
 pub write-items-draft-requires : need.write-items-draft-requires

@@ -1,4 +1,3 @@
-use mathlib.Core.Bool.{true}
 use mathlib.Core.List.{List, []}
 use mathlib.Core.Path.{_≡_, sym, ap, subst, _∙_}
 use Prim.Native.Nat.{ℕ}
@@ -6,9 +5,8 @@ use Rattle.std.specs.Results.{isOk}
 use Rattle.std.specs.declared.result.Result.the-variants.{Ok}
 use Rattle.packet.specs.Reading.{messagesFrom}
 use Rattle.packet.specs.Walking.{ahead}
-use Rattle.model.specs.Models.{HubModel}
 use Rattle.hub.specs.Memory.{hubModel}
-use Rattle.hub.specs.Surveys.{Heard, heardAll}
+use Rattle.hub.specs.Surveys.{heardAll}
 use Rattle.hub.proofs.Surveys.{heard-end, heard-more, ok-more}
 use Rattle.hub.proofs.memory.Hub.hear_all.Needs as need
 

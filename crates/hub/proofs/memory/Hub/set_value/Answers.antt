@@ -1,10 +1,10 @@
-use mathlib.Core.Path.{_≡_, sym, ap, ap₂, _∙_}
-use mathlib.Core.List.{List, map}
+use mathlib.Core.Path.{_≡_, ap, _∙_}
+use mathlib.Core.List.{map}
 use mir.Facts.{toZ-ofZ}
 use Rattle.std.specs.declared.result.Result.{Result}
 use Rattle.std.specs.declared.result.Result.the-variants.{Ok}
 use Rattle.fault.specs.declared.Fault.{Fault}
-use Rattle.model.specs.Models.{HubModel, SwitchModel, answerOf, hubAfter, touched}
+use Rattle.model.specs.Models.{answerOf, hubAfter, touched}
 use Rattle.model.specs.Settings.{granted, withValue}
 use Rattle.store.specs.Meaning.{Known, afterPut, putAnswer}
 use Rattle.hub.specs.Memory.{hubModel}

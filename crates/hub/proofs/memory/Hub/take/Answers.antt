@@ -1,11 +1,9 @@
 use mathlib.Core.Bool.{Bool, cond}
-use mathlib.Core.Path.{_≡_, sym, ap, ap₂, _∙_}
-use Prim.Native.Nat.{ℕ}
+use mathlib.Core.Path.{sym, ap, _∙_}
 use lib.Dec.{eqb}
 use Rattle.std.specs.declared.result.Result.the-variants.{Ok}
-use Rattle.model.specs.declared.told.Arrival.{Arrival}
 use Rattle.model.specs.declared.told.Arrival.the-variants.{Answer, Stale}
-use Rattle.model.specs.Models.{Step, answerOf, changeSwitch, hubAfter}
+use Rattle.model.specs.Models.{answerOf, changeSwitch, hubAfter}
 use Rattle.model.specs.Taking.{answered}
 use Rattle.switch.specs.Memory.{switchModel}
 use Rattle.hub.specs.Memory.{hubModel}

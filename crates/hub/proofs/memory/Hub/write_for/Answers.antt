@@ -1,22 +1,18 @@
-use mathlib.Core.Path.{_≡_, sym, ap, ap₂, subst, _∙_}
+use mathlib.Core.Path.{_≡_, sym, ap, ap₂, _∙_}
 use mathlib.Core.List.{List, _++_}
-use mathlib.Core.Bool.{Bool, true, false}
+use mathlib.Core.Bool.{true, false}
 use Prim.Native.Nat.{ℕ, _<_, _≤_}
 use native.Mathlib.Omega.{arith}
 use lib.ListN.{drop, length}
 use Rattle.std.specs.Options.{isSome}
 use Rattle.std.specs.declared.option.Option.the-variants.{Some}
-use Rattle.std.specs.declared.result.Result.{Result}
-use Rattle.std.specs.declared.result.Result.the-variants.{Ok}
-use Rattle.fault.specs.declared.Fault.{Fault}
 use Rattle.packet.specs.declared.words.Descriptor.{Descriptor}
 use Rattle.packet.specs.Packets.{packetBytes}
-use Rattle.model.specs.Composing.{Composition, hasOutstanding, packetFor, packetOver, recordsFor, wordsFor}
+use Rattle.model.specs.Composing.{hasOutstanding, packetFor, packetOver, recordsFor, wordsFor}
 use Rattle.model.specs.declared.told.Numbers.{Numbers}
 use Rattle.switch.specs.Memory.{switchModel}
 use Rattle.hub.specs.Compositions.{composition, packetLength}
 use Rattle.hub.specs.Memory.{hubModel}
-use Rattle.hub.specs.declared.composing.Composed.{Composed}
 use Rattle.hub.proofs.Compositions.{compose-room, compose-short, told-alike}
 use Rattle.hub.proofs.Written.{packet-long}
 use Rattle.hub.proofs.memory.Hub.write_for.Needs as need
