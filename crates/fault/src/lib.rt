@@ -1,4 +1,6 @@
 // Every refusal: the layer that refused, why, and at which place.
+#![tactic(auto)]
+
 ghost use Rattle.std.specs.Prelude.{◌≡◌};
 ghost use Rattle.fault.specs.Table.{Telling, layer_of, number_of, place_of};
 

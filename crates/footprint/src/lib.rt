@@ -1,4 +1,6 @@
 // The memory that a controller sets aside for a hub, so that a small device can be chosen for it.
+#![tactic(auto)]
+
 ghost use Rattle.std.specs.Prelude.{◌≡◌, ◌<◌};
 
 use hub::Hub;

@@ -1,4 +1,6 @@
 // Bytes as lines of hexadecimal digits, and lines of digits as bytes.
+#![tactic(auto)]
+
 mod digit;
 mod lines;
 mod reading;

@@ -1,4 +1,6 @@
 // A hub with two switches on a line of text: payloads in hexadecimal come in, one a line, and the packets that are then due go out.
+#![tactic(auto)]
+
 ghost use Rattle.std.specs.Prelude.{◌≡◌, true, is_ok};
 ghost use Rattle.model.specs.Composing.{sent};
 ghost use Rattle.hub.specs.Memory.{hub_model};

@@ -1,4 +1,6 @@
 // The hub: the controller's end of the line, over any actor store.
+#![tactic(auto)]
+
 mod composing;
 mod enrolment;
 mod handing_in;

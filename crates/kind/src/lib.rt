@@ -1,4 +1,6 @@
 // The six kinds of message, and one reader and one writer that serve them all.
+#![tactic(auto)]
+
 mod flags;
 mod keys;
 mod message;

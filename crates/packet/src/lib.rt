@@ -1,4 +1,6 @@
 // Payloads: the descriptor, the messages behind it, and drafts of packets to be sent.
+#![tactic(auto)]
+
 mod drafting;
 mod reading;
 mod records;

@@ -1,4 +1,6 @@
 // Scripts for a hub: one call a line.
+#![tactic(auto)]
+
 mod actors;
 mod call;
 mod lists;

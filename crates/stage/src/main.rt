@@ -1,4 +1,6 @@
 // A stage for a hub: a script of calls comes in, one a line, and what each call told goes out.
+#![tactic(auto)]
+
 ghost use Rattle.std.specs.Prelude.{[]};
 ghost use Rattle.hub.specs.Memory.{hub_model};
 ghost use Rattle.stage.specs.Slips.{HoldsAll};

@@ -1,4 +1,6 @@
 // Actor stores: what every store means, and the table, the store in memory.
+#![tactic(auto)]
+
 mod entering;
 pub mod meaning;
 pub mod opening;

@@ -1,4 +1,6 @@
 // One enrolled switch in memory, and switches in a row.
+#![tactic(auto)]
+
 mod asking;
 mod items;
 mod memory;

@@ -1,4 +1,6 @@
 // Shows a capture, one payload in hexadecimal a line of standard input, in words.
+#![tactic(auto)]
+
 ghost use Rattle.std.specs.Prelude.{◌≡◌, ◌≤◌, true, length, take, is_ok, IfOk};
 ghost use Rattle.hexadecimal.specs.Decoding.{decode_tells};
 ghost use Rattle.packet.specs.Reading.{messages_from};

@@ -1,4 +1,6 @@
 // Examples worked out by hand from the protocol's rules: one fact about the definitions, and tests of the reader and of drafts.
+#![tactic(auto)]
+
 ghost use Rattle.worked.specs.Examples.{WorkedExamples};
 
 #[cfg(test)]

@@ -1,4 +1,6 @@
 // Worked examples of the hub: every expected value follows from the rules by hand.
+#![tactic(auto)]
+
 #[cfg(test)]
 mod asking;
 #[cfg(test)]

@@ -1,4 +1,6 @@
 // Worked examples of the actor stores: every expected value follows from the rules by hand.
+#![tactic(auto)]
+
 #[cfg(test)]
 mod tests {
     use fault::Fault;
