@@ -23,7 +23,7 @@ impl Kind for State {
 
     ghost layout = { state };
 
-    ghost lawful = { flags-lawful 0x01 0x1F0F18FF (omega arith) (omega arith) };
+    ghost lawful = { flags_lawful 0x01 0x1F0F18FF (omega arith) (omega arith) };
 
     fn message_id() -> u8 {
         Self::ID
@@ -62,7 +62,7 @@ impl Kind for Control {
 
     ghost layout = { control };
 
-    ghost lawful = { flags-lawful 0x21 0x1F00FFBF (omega arith) (omega arith) };
+    ghost lawful = { flags_lawful 0x21 0x1F00FFBF (omega arith) (omega arith) };
 
     fn message_id() -> u8 {
         Self::ID

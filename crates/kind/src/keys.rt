@@ -20,7 +20,7 @@ impl Kind for Event {
 
     ghost layout = { event };
 
-    ghost lawful = { event-lawful };
+    ghost lawful = { event_lawful };
 
     fn message_id() -> u8 {
         Self::ID

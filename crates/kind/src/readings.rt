@@ -20,7 +20,7 @@ impl Kind for Temperature {
 
     ghost layout = { temperature };
 
-    ghost lawful = { temperature-lawful };
+    ghost lawful = { temperature_lawful };
 
     fn message_id() -> u8 {
         Self::ID

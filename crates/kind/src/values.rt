@@ -18,7 +18,7 @@ impl Kind for EditValue {
 
     ghost layout = { edit_value };
 
-    ghost lawful = { value-lawful 0x42 (omega arith) };
+    ghost lawful = { value_lawful 0x42 (omega arith) };
 
     fn message_id() -> u8 {
         Self::ID
@@ -58,7 +58,7 @@ impl Kind for RealValue {
 
     ghost layout = { real_value };
 
-    ghost lawful = { value-lawful 0x43 (omega arith) };
+    ghost lawful = { value_lawful 0x43 (omega arith) };
 
     fn message_id() -> u8 {
         Self::ID

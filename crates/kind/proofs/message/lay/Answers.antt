@@ -10,10 +10,10 @@ returns g c =
     let out = c.args.out.now in
     let actor = c.args.actor in
     let r = c.args.record in
-    let lo = ap (λ (l : List ℕ). get_or l 0 0) c.to-le-bytes.ensures in
-    let hi = ap (λ (l : List ℕ). get_or l 1 0) c.to-le-bytes.ensures in
-    let heads : c.copy-from-slice.new.self ≡ k.size ∷ k.ident ∷ actor % 256 ∷ actor / 256 % 256 ∷ [] = cc in
-    let whole = laid k laws actor r out _ _ c.encode-data.result _ c.message-len-size.ensures heads c.copy-from-slice-2.ensures.after c.encode-data.ensures in
+    let lo = ap (λ (l : List ℕ). get_or l 0 0) c.to_le_bytes.ensures in
+    let hi = ap (λ (l : List ℕ). get_or l 1 0) c.to_le_bytes.ensures in
+    let heads : c.copy_from_slice.new.self ≡ k.size ∷ k.ident ∷ actor % 256 ∷ actor / 256 % 256 ∷ [] = cc in
+    let whole = laid k laws actor r out _ _ c.encode-data.result _ c.message_len-size.ensures heads c.copy_from_slice-2.ensures.after c.encode-data.ensures in
     record {
       bytes = whole;
       back = subst (ReadsBack k actor r) (sym whole) (reads_back k laws actor r (drop k.size out) (search rules) c.requires.1);
