@@ -8,7 +8,7 @@ pub returns : goal.returns
 returns c =
     let buf = c.args.buf.now in
     let size = 16 + c.args.behind in
-    let length = c.copy-from-slice.ensures.after ∙ c.to-le-bytes.ensures in
+    let length = c.copy_from_slice.ensures.after ∙ c.to_le_bytes.ensures in
     let whole = ap₂ (λ (l r : List ℕ). take 2 buf ++ (l ++ r)) length (drop-drop 2 2 buf) in
     record {
       bytes = whole;

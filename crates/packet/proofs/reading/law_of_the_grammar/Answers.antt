@@ -2,4 +2,4 @@ use Rattle.packet.proofs.Spelling.{reading_is_grammar}
 use Rattle.packet.proofs.reading.law_of_the_grammar.Goals as goal
 
 pub returns : goal.returns
-returns c = reading_is_grammar c.args.-payload.now
+returns c = reading_is_grammar c.args._payload.now
