@@ -12,8 +12,8 @@ pub fn put_and_read<S: ActorStore>(
     half: Half,
     value: i16,
 ) -> Result<(i16, i16), Fault>
-    ensures answer { result ≡ read_back (meaning store.old) actor half value }
-    ensures after { meaning store.new ≡ after_put (meaning store.old) actor half value }
+    ensures answer { result ≡ read_back (S.meaning store.old) actor half value }
+    ensures after { S.meaning store.new ≡ after_put (S.meaning store.old) actor half value }
 {
     store.put(actor, half, value)?;
     store.read(actor)

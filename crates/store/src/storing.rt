@@ -14,7 +14,7 @@ use fault::{Fault, StoreFault};
 impl ActorStore for Table {
     ghost meaning = { actors_in };
 
-    ghost lawful = { λ s a. lawful-lookup (in_use s) a s.lawful };
+    ghost lawful = { λ s a. lawful_lookup (in_use s) a s.lawful };
 
     fn read(&self, actor: u16) -> Result<(i16, i16), Fault> {
         let i = self.find(actor)?;
