@@ -23,10 +23,14 @@ loop-i-preserved c =
 entered : (items : List Item) (xs : List ℕ) (i : ℕ) → i ≡ length xs → take i items ≡ map due_item (take i xs) → take (length xs) items ≡ map due_item xs
 entered items xs i e front = ap (λ k. take k items) (sym e) ∙ front ∙ ap (map due_item) (take_all i xs (omega arith))
 
-pub invariant-of-result : goal.invariant-of-result
-invariant-of-result c =
+pub invariant_of-result : goal.invariant_of-result
+invariant_of-result c =
     let xs = c.args.actors.now in
-    (c.loop-i.invariant.0, (c.requires.0, (ap all_named (entered c.loop-i.items xs c.loop-i.i (omega arith) c.loop-i.invariant.1) ∙ named_due xs c.requires.1, tt)))
+    record {
+      long = c.loop-i.invariant.0;
+      few = c.requires.0;
+      named = ap all_named (entered c.loop-i.items xs c.loop-i.i (omega arith) c.loop-i.invariant.1) ∙ named_due xs c.requires.1;
+    }
 
 pub returns : goal.returns
 returns c =

@@ -5,7 +5,7 @@ use Rattle.model.specs.Composing.{outstanding_actors}
 use Rattle.model.specs.Marks.{is_outstanding}
 use Rattle.switch.proofs.Searches.{no_item}
 use Rattle.switch.proofs.items.count_outstanding.Goals as goal
-use Rattle.switch.proofs.items.count_outstanding.Goals.{then-is-outstanding, else-is-outstanding}
+use Rattle.switch.proofs.items.count_outstanding.Goals.{then-is_outstanding, else-is_outstanding}
 
 pub loop-item-preserved : goal.loop-item-preserved
 unfolding outstanding_actors
@@ -16,11 +16,11 @@ loop-item-preserved c =
     let sum = c.loop-item.invariant.1 in
     let more : outstanding_actors (drop i xs) ≡ cond (is_outstanding (get_or xs i no_item).mark) (suc (outstanding_actors (drop (i + 1) xs))) (outstanding_actors (drop (i + 1) xs)) =
     at_drop_more outstanding_actors xs i no_item c.loop-item-test.true in
-    elim c.if-is-outstanding.branch [
-      | then-is-outstanding w ↦
-          (let one = more ∙ cond-true _ _ _ (sym w.if-is-outstanding.ensures) in let n = w.count-is in (omega arith, omega arith))
-      | else-is-outstanding w ↦
-          (let none = more ∙ cond-false _ _ _ (sym w.if-is-outstanding.ensures) in let n = w.count-is in (omega arith, omega arith))
+    elim c.if-is_outstanding.branch [
+      | then-is_outstanding w ↦
+          (let one = more ∙ cond-true _ _ _ (sym w.if-is_outstanding.ensures) in let n = w.count-is in (omega arith, omega arith))
+      | else-is_outstanding w ↦
+          (let none = more ∙ cond-false _ _ _ (sym w.if-is_outstanding.ensures) in let n = w.count-is in (omega arith, omega arith))
     ]
 
 pub returns : goal.returns

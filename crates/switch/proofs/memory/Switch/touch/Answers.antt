@@ -8,19 +8,15 @@ use Rattle.switch.proofs.Maps.{mapped_front, mapped_length}
 use Rattle.switch.proofs.Named.{named_map, touched_actor}
 use Rattle.switch.proofs.memory.Switch.touch.Goals as goal
 
-pub invariant-of-self : goal.invariant-of-self
-invariant-of-self c =
+pub invariant_of-self : goal.invariant_of-self
+invariant_of-self c =
     let s = c.args.self.now in
-    let room : s.count ≤ length s.items = omega (arith, s.few, s.long) in (
-      mapped_length (touched_item c.args.actor) s.items c.touch.new.items s.count room c.touch.ensures ∙ s.long,
-      (
-        s.few,
-        (
-          ap all_named (mapped_front (touched_item c.args.actor) s.items c.touch.new.items s.count room c.touch.ensures _) ∙ named_map (touched_item c.args.actor) (touched_actor c.args.actor) (take s.count s.items) ∙ s.named,
-          tt,
-        ),
-      ),
-    )
+    let room : s.count ≤ length s.items = omega (arith, s.few, s.long) in
+    record {
+      long = mapped_length (touched_item c.args.actor) s.items c.touch.new.items s.count room c.touch.ensures ∙ s.long;
+      few = s.few;
+      named = ap all_named (mapped_front (touched_item c.args.actor) s.items c.touch.new.items s.count room c.touch.ensures _) ∙ named_map (touched_item c.args.actor) (touched_actor c.args.actor) (take s.count s.items) ∙ s.named;
+    }
 
 pub returns : goal.returns
 returns c =
