@@ -2,18 +2,19 @@
 use Rattle.std.specs.Prelude.{List, map, take, Ok, Err, Result}
 use Rattle.fault.specs.declared.Fault.{Fault}
 use Rattle.model.specs.Models.{HubModel, SwitchModel}
+use Rattle.store.specs.declared.meaning.ActorStore.{Ghosts}
 use Rattle.store.specs.Meaning.{Known}
 use Rattle.switch.specs.Memory.{switch_model}
 use Rattle.hub.specs.declared.memory.Hub.{Hub}
 
-abbrev pub enrolled_in : {S : Type 0} → Hub S → List SwitchModel
+abbrev pub enrolled_in : {S : Type 0} {store : Ghosts S} → Hub S store → List SwitchModel
 enrolled_in h = map switch_model (take h.count h.switches)
 
-abbrev pub hub_model : {S : Type 0} → (S → Known) → Hub S → HubModel
+abbrev pub hub_model : {S : Type 0} {store : Ghosts S} → (S → Known) → Hub S store → HubModel
 hub_model meaning h = record { site = h.site; switches = enrolled_in h; store = meaning h.store }
 
 -- an opening's answer by what it means: a hub's model, or the fault and the store that comes back
-abbrev pub seen : {S : Type 0} → (S → Known) → Result (Hub S) (Fault × S) → Result HubModel (Fault × S)
+abbrev pub seen : {S : Type 0} {store : Ghosts S} → (S → Known) → Result (Hub S store) (Fault × S) → Result HubModel (Fault × S)
 seen meaning (Ok h) = Ok (hub_model meaning h)
 seen meaning (Err e) = Err e
 
@@ -22,6 +23,6 @@ handed_back store (Ok h) = Ok h
 handed_back store (Err e) = Err (e, store)
 
 -- what holds once a hub is opened
-abbrev pub IfOpened : {S : Type 0} → Type 0 → Result (Hub S) (Fault × S) → Type 0
+abbrev pub IfOpened : {S : Type 0} {store : Ghosts S} → Type 0 → Result (Hub S store) (Fault × S) → Type 0
 IfOpened holds (Ok h) = holds
 IfOpened holds (Err e) = Unit {0}

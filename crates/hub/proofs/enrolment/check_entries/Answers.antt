@@ -9,24 +9,24 @@ use Rattle.hub.proofs.enrolment.check_entries.Goals as goal
 abbrev unfit_at : List ℕ → ℕ → List ℕ → Bool
 unfit_at xs i before = eqb (get_or xs i 0) 0 || lists before (get_or xs i 0)
 
-pub returns-then-is-unfit : goal.returns-then-is-unfit
-returns-then-is-unfit g c =
+pub returns-then-is_unfit : goal.returns-then-is_unfit
+returns-then-is_unfit g c =
     let xs = c.args.actors.now in
     let i = c.loop-i.i in
     record {
       answer = ap (λ o. unless o tt)
-          (sym (entry_unfit (g.S.ActorStore.meaning c.args.store.now) xs i c.loop-i.invariant c.loop-i-test.true (ap (unfit_at xs i) (sym (front xs i)) ∙ sym c.if-is-unfit.ensures)));
+          (sym (entry_unfit (g.S.ActorStore.meaning c.args.store.now) xs i c.loop-i.invariant c.loop-i-test.true (ap (unfit_at xs i) (sym (front xs i)) ∙ sym c.if-is_unfit.ensures)));
       named = tt;
     }
 
-pub returns-then-not-is-known : goal.returns-then-not-is-known
-returns-then-not-is-known g c =
+pub returns-then-not-is_known : goal.returns-then-not-is_known
+returns-then-not-is_known g c =
     let xs = c.args.actors.now in
     let i = c.loop-i.i in
     record {
       answer = ap (λ o. unless o tt)
-          (sym (entry_unknown (g.S.ActorStore.meaning c.args.store.now) xs i c.loop-i.invariant c.loop-i-test.true (ap (unfit_at xs i) (sym (front xs i)) ∙ sym c.if-is-unfit.ensures)
-          (sym c.if-not-is-known.ensures)));
+          (sym (entry_unknown (g.S.ActorStore.meaning c.args.store.now) xs i c.loop-i.invariant c.loop-i-test.true (ap (unfit_at xs i) (sym (front xs i)) ∙ sym c.if-is_unfit.ensures)
+          (sym c.if-not-is_known.ensures)));
       named = tt;
     }
 
@@ -34,8 +34,8 @@ pub loop-i-preserved : goal.loop-i-preserved
 loop-i-preserved g c =
     let xs = c.args.actors.now in
     let i = c.loop-i.i in
-    entry_passes (g.S.ActorStore.meaning c.args.store.now) xs i c.loop-i.invariant c.loop-i-test.true (ap (unfit_at xs i) (sym (front xs i)) ∙ sym c.if-is-unfit.ensures)
-    (sym c.if-not-is-known.ensures)
+    entry_passes (g.S.ActorStore.meaning c.args.store.now) xs i c.loop-i.invariant c.loop-i-test.true (ap (unfit_at xs i) (sym (front xs i)) ∙ sym c.if-is_unfit.ensures)
+    (sym c.if-not-is_known.ensures)
 
 pub returns : goal.returns
 returns g c =

@@ -9,7 +9,7 @@ use Rattle.hub.proofs.taking.check_messages.Goals as goal
 
 pub loop-place-preserved : goal.loop-place-preserved
 loop-place-preserved c =
-    let t = c.in-ok-place.ensures in
+    let t = c.in_ok-place.ensures in
     let i = c.loop-place.invariant in
     let items = items_in c.args.switch.now in
     let from = c.loop-place.cursor.place in
@@ -30,10 +30,10 @@ loop-place-preserved c =
 
 pub returns : goal.returns
 returns c =
-    let t = c.in-ok-place.ensures in
+    let t = c.in_ok-place.ensures in
     let i = c.loop-place.invariant in
     let items = items_in c.args.switch.now in
     let from = c.loop-place.cursor.place in
     let to = c.next.new.self.place in
-    let walked : messages_from c.args.payload.now from ≡ Ok [] = subst (λ (l : List ℕ). Walked l from to (Ok None)) i.0 (subst (λ o. Walked c.loop-place.cursor.payload.now from to (Ok o)) c.in-default.is t.walked) in
+    let walked : messages_from c.args.payload.now from ≡ Ok [] = subst (λ (l : List ℕ). Walked l from to (Ok None)) i.0 (subst (λ o. Walked c.loop-place.cursor.payload.now from to (Ok o)) c.in_default.is t.walked) in
     sym (onto_end items c.loop-place.survey) ∙ ap (λ r. onto c.loop-place.survey (survey_of items r)) (sym walked) ∙ i.3

@@ -9,20 +9,20 @@ use Rattle.switch.proofs.Searches.{no_item}
 use Rattle.hub.specs.Writing.{Wrote}
 use Rattle.hub.proofs.Written.{actors_room, item_named, items_long, items_more, wrote_nothing, wrote_then}
 use Rattle.hub.proofs.writing.write_items.Goals as goal
-use Rattle.hub.proofs.writing.write_items.Goals.{then-is-outstanding, else-is-outstanding}
+use Rattle.hub.proofs.writing.write_items.Goals.{then-is_outstanding, else-is_outstanding}
 
 pub loop-item-init : goal.loop-item-init
 unfolding item_records
 loop-item-init g c = wrote_nothing c.args.draft c.args.buf.now
 
-pub write-actor-draft-requires : goal.write-actor-draft-requires
-write-actor-draft-requires g c =
+pub write_actor-draft-requires : goal.write_actor-draft-requires
+write_actor-draft-requires g c =
     let xs = c.args.items.now in
     let i = c.loop-item.item-index in
     let st = g.S.ActorStore.meaning c.args.store.now in
     let size = c.loop-item.invariant.size in
     let long = items_long st (take i xs) in
-    let room = actors_room xs i no_item c.loop-item-test.true (sym c.if-is-outstanding.ensures) in
+    let room = actors_room xs i no_item c.loop-item-test.true (sym c.if-is_outstanding.ensures) in
     let kept = c.loop-item.auto.buf in
     let first = c.requires.1.0 in
     let second = c.requires.1.1 in
@@ -37,16 +37,16 @@ loop-item-preserved g c =
     let more = items_more xs i no_item c.loop-item-test.true st in
     let d = c.args.draft in
     let buf = c.args.buf.now in
-    elim c.if-is-outstanding.branch [
-      | then-is-outstanding w ↦
-          (let all = more ∙ ap (λ (l : List Record). item_records st (take i xs) ++ l) (cond-true _ _ _ (sym w.if-is-outstanding.ensures)) in
-          subst (λ (e : Draft). Wrote d buf (item_records st (take (i + 1) xs)) e c.if-is-outstanding.buf) (sym w.draft-is)
-          (subst (λ (b : List ℕ). Wrote d buf (item_records st (take (i + 1) xs)) w.write-actor-draft.result b) (sym w.buf-is)
-          (subst (λ (l : List Record). Wrote d buf l w.write-actor-draft.result w.write-actor-draft.new.buf) (sym all)
-          (wrote_then d c.loop-item.draft w.write-actor-draft.result buf c.loop-item.buf w.write-actor-draft.new.buf (item_records st (take i xs)) (actor_records st x.actor) c.loop-item.invariant w.write-actor-draft.ensures))))
-      | else-is-outstanding w ↦
-          (let all = more ∙ ap (λ (l : List Record). item_records st (take i xs) ++ l) (cond-false _ _ _ (sym w.if-is-outstanding.ensures)) ∙ append-nil (item_records st (take i xs)) in
-          subst (λ (e : Draft). Wrote d buf (item_records st (take (i + 1) xs)) e c.if-is-outstanding.buf) (sym w.draft-is)
+    elim c.if-is_outstanding.branch [
+      | then-is_outstanding w ↦
+          (let all = more ∙ ap (λ (l : List Record). item_records st (take i xs) ++ l) (cond-true _ _ _ (sym w.if-is_outstanding.ensures)) in
+          subst (λ (e : Draft). Wrote d buf (item_records st (take (i + 1) xs)) e c.if-is_outstanding.buf) (sym w.draft-is)
+          (subst (λ (b : List ℕ). Wrote d buf (item_records st (take (i + 1) xs)) w.write_actor-draft.result b) (sym w.buf-is)
+          (subst (λ (l : List Record). Wrote d buf l w.write_actor-draft.result w.write_actor-draft.new.buf) (sym all)
+          (wrote_then d c.loop-item.draft w.write_actor-draft.result buf c.loop-item.buf w.write_actor-draft.new.buf (item_records st (take i xs)) (actor_records st x.actor) c.loop-item.invariant w.write_actor-draft.ensures))))
+      | else-is_outstanding w ↦
+          (let all = more ∙ ap (λ (l : List Record). item_records st (take i xs) ++ l) (cond-false _ _ _ (sym w.if-is_outstanding.ensures)) ∙ append-nil (item_records st (take i xs)) in
+          subst (λ (e : Draft). Wrote d buf (item_records st (take (i + 1) xs)) e c.if-is_outstanding.buf) (sym w.draft-is)
           (subst (λ (b : List ℕ). Wrote d buf (item_records st (take (i + 1) xs)) c.loop-item.draft b) (sym w.buf-is)
           (subst (λ (l : List Record). Wrote d buf l c.loop-item.draft c.loop-item.buf) (sym all) c.loop-item.invariant)))
     ]

@@ -13,8 +13,8 @@ use Rattle.hub.specs.Compositions.{packet_length}
 use Rattle.hub.proofs.Written.{actors_few, actors_same, control_few, control_long, control_same, items_long}
 use Rattle.hub.proofs.writing.write_packet.Goals as goal
 
-pub write-items-draft-requires : goal.write-items-draft-requires
-write-items-draft-requires g c =
+pub write_items-draft-requires : goal.write_items-draft-requires
+write_items-draft-requires g c =
     let xs = c.items.result.now in
     let size = c.begin-draft.ensures.size in
     let same = ap outstanding_actors c.items.ensures.items in
@@ -24,22 +24,22 @@ write-items-draft-requires g c =
     let kept = c.begin-draft.auto.buf in
     (c.items.ensures.named, (omega arith, omega arith))
 
-pub write-control-draft-requires : goal.write-control-draft-requires
-write-control-draft-requires g c =
+pub write_control-draft-requires : goal.write_control-draft-requires
+write_control-draft-requires g c =
     let xs = c.items.result.now in
     let st = g.S.ActorStore.meaning c.args.store.now in
     let m = switch_model c.args.switch.now in
     let size = c.begin-draft.ensures.size in
-    let more = c.write-items-draft.ensures.size in
+    let more = c.write_items-draft.ensures.size in
     let long = items_long st xs in
     let same = actors_same xs m.items c.items.ensures.items in
-    let mark = control_same c.control-mark.result m.mark c.control-mark.ensures in
+    let mark = control_same c.control_mark.result m.mark c.control_mark.ensures in
     let few = actors_few xs in
-    let one = control_few c.control-mark.result in
+    let one = control_few c.control_mark.result in
     let most = c.items.ensures.few in
     let room = c.requires.1 in
     let kept = c.begin-draft.auto.buf in
-    let then = c.write-items-draft.auto.buf in
+    let then = c.write_items-draft.auto.buf in
     (omega arith, omega arith)
 
 pub finish-requires : goal.finish-requires
@@ -48,19 +48,19 @@ finish-requires g c =
     let st = g.S.ActorStore.meaning c.args.store.now in
     let m = switch_model c.args.switch.now in
     let size = c.begin-draft.ensures.size in
-    let more = c.write-items-draft.ensures.size in
-    let last = c.write-control-draft.ensures.size in
+    let more = c.write_items-draft.ensures.size in
+    let last = c.write_control-draft.ensures.size in
     let long = items_long st xs in
-    let tail = control_long c.control-mark.result c.control.result in
+    let tail = control_long c.control_mark.result c.control.result in
     let same = actors_same xs m.items c.items.ensures.items in
-    let mark = control_same c.control-mark.result m.mark c.control-mark.ensures in
+    let mark = control_same c.control_mark.result m.mark c.control_mark.ensures in
     let few = actors_few xs in
-    let one = control_few c.control-mark.result in
+    let one = control_few c.control_mark.result in
     let most = c.items.ensures.few in
     let room = c.requires.1 in
     let kept = c.begin-draft.auto.buf in
-    let then = c.write-items-draft.auto.buf in
-    let at = c.write-control-draft.auto.buf in
+    let then = c.write_items-draft.auto.buf in
+    let at = c.write_control-draft.auto.buf in
     (omega arith, omega arith)
 
 pub returns : goal.returns
@@ -69,24 +69,24 @@ returns g c =
     let st = g.S.ActorStore.meaning c.args.store.now in
     let m = switch_model c.args.switch.now in
     let w = c.args.words in
-    let d = c.write-control-draft.result in
+    let d = c.write_control-draft.result in
     let end = c.finish.new.buf in
     let size = c.begin-draft.ensures.size in
-    let more = c.write-items-draft.ensures.size in
-    let last = c.write-control-draft.ensures.size in
+    let more = c.write_items-draft.ensures.size in
+    let last = c.write_control-draft.ensures.size in
     let long = items_long st xs in
-    let tail = control_long c.control-mark.result c.control.result in
+    let tail = control_long c.control_mark.result c.control.result in
     let same = actors_same xs m.items c.items.ensures.items in
-    let mark = control_same c.control-mark.result m.mark c.control-mark.ensures in
+    let mark = control_same c.control_mark.result m.mark c.control_mark.ensures in
     let whole : size_of d ≡ packet_length m = omega arith in
     let from : 16 ≤ packet_length m = omega arith in
-    let upto : size_of c.write-items-draft.result ≤ packet_length m = omega arith in
-    let written = c.write-control-draft.ensures.drafting w _ (c.write-items-draft.ensures.drafting w [] c.begin-draft.ensures.drafting) in
+    let upto : size_of c.write_items-draft.result ≤ packet_length m = omega arith in
+    let written = c.write_control-draft.ensures.drafting w _ (c.write_items-draft.ensures.drafting w [] c.begin-draft.ensures.drafting) in
     let said = ap₂ (λ (is : List Item) (rs : List Record). item_records st is ++ rs) c.items.ensures.items
-    (ap₂ (λ (k : Mark) (word : ℕ). cond (is_outstanding k) (Control word ∷ []) []) c.control-mark.ensures c.control.ensures) in
+    (ap₂ (λ (k : Mark) (word : ℕ). cond (is_outstanding k) (Control word ∷ []) []) c.control_mark.ensures c.control.ensures) in
     let front = ap (λ (n : ℕ). take n end) (sym whole) ∙ c.finish.ensures.packet w _ written ∙ ap (packet_bytes w) said in
     let beyond = c.finish.ensures.beyond (packet_length m) (omega arith)
-    ∙ c.write-control-draft.ensures.beyond (packet_length m) (omega arith)
-    ∙ c.write-items-draft.ensures.beyond (packet_length m) upto
+    ∙ c.write_control-draft.ensures.beyond (packet_length m) (omega arith)
+    ∙ c.write_items-draft.ensures.beyond (packet_length m) upto
     ∙ c.begin-draft.ensures.beyond (packet_length m) from in
     sym (take-append-drop (packet_length m) end) ∙ ap₂ (λ (a b : List ℕ). a ++ b) front beyond

@@ -12,7 +12,7 @@ loop-message-preserved g c =
     let i = c.loop-message.invariant in
     let s = c.args.payload.now in
     let from = c.loop-message.cursor.place in
-    let to = c.next-message.new.cursor.place in
+    let to = c.next_message.new.cursor.place in
     let h = hub_model g.S.ActorStore.meaning c.loop-message.self in
     let place = t.walked.0 in
     let walked : messages_from s from ≡ ahead (place, c.in-Some.message) (messages_from s to) =
@@ -27,7 +27,7 @@ loop-message-preserved g c =
 
 pub returns : goal.returns
 returns g c =
-    let t = c.in-default.ensures in
+    let t = c.in_default.ensures in
     let i = c.loop-message.invariant in
     let s = c.args.payload.now in
     let from = c.loop-message.cursor.place in

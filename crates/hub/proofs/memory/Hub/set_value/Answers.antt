@@ -33,7 +33,7 @@ returns g c =
     let a = c.args.actor in
     let v = c.args.value in
     let z = to_z-of_z c.ranges.value in
-    let ok : Ok tt ≡ put_answer h.store a v = c.in-ok-put.ensures.answer ∙ ap (put_answer h.store a) z in
+    let ok : Ok tt ≡ put_answer h.store a v = c.in_ok-put.ensures.answer ∙ ap (put_answer h.store a) z in
     record {
       answer = ap (λ (r : Result Unit Fault). answer_of (granted r (with_value a c.args.half v h))) ok;
       after =
@@ -42,15 +42,15 @@ returns g c =
           ∙ ap (λ (r : Result Unit Fault). hub_after h (granted r (with_value a c.args.half v h))) ok;
     }
 
-pub returns-in-err-put : goal.returns-in-err-put
-returns-in-err-put g c =
+pub returns-in_err-put : goal.returns-in_err-put
+returns-in_err-put g c =
     let m = g.S.ActorStore.meaning in
     let h = hub_model m c.args.self.now in
     let a = c.args.actor in
     let v = c.args.value in
     let z = to_z-of_z c.ranges.value in
-    let refused : Err c.in-err-put.field-0.0 ≡ put_answer h.store a v = c.in-err-put.ensures.answer ∙ ap (put_answer h.store a) z in
-    let told : c.from-residual.result ≡ Err c.in-err-put.field-0.0 = search rules in
+    let refused : Err c.in_err-put.field-0.0 ≡ put_answer h.store a v = c.in_err-put.ensures.answer ∙ ap (put_answer h.store a) z in
+    let told : c.from_residual.result ≡ Err c.in_err-put.field-0.0 = search rules in
     let kept : after_put h.store a c.args.half v ≡ h.store = refused_keeps h.store a c.args.half v _ refused in
     record {
       answer = told ∙ refused ∙ refused_answer (put_answer h.store a v) _ (with_value a c.args.half v h) refused;

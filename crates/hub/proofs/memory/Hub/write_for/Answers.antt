@@ -16,9 +16,9 @@ returns-then-buf-length g c =
     let m = switch_model c.args.switch.now in
     let id = c.args.id in
     let buf = c.args.buf.now in
-    let free : is_some m.numbers.slip ≡ false = ap (λ (n : Numbers). is_some n.slip) (sym c.numbers.ensures) ∙ sym c.if-is-some.ensures in
-    let some : has_outstanding m ≡ true = sym c.if-not-has-outstanding.ensures in
-    let short : length buf < packet_length m = omega (arith, c.if-buf-length.true, c.packet-length-length.ensures) in
+    let free : is_some m.numbers.slip ≡ false = ap (λ (n : Numbers). is_some n.slip) (sym c.numbers.ensures) ∙ sym c.if-is_some.ensures in
+    let some : has_outstanding m ≡ true = sym c.if-not-has_outstanding.ensures in
+    let short : length buf < packet_length m = omega (arith, c.if-buf-length.true, c.packet_length-length.ensures) in
     let told = compose_short h id buf m free some short in
     record {
       answer = sym (ap (composition id) told);
@@ -31,14 +31,14 @@ returns g c =
     let m = switch_model c.args.switch.now in
     let id = c.args.id in
     let buf = c.args.buf.now in
-    let free : is_some m.numbers.slip ≡ false = ap (λ (n : Numbers). is_some n.slip) (sym c.numbers.ensures) ∙ sym c.if-is-some.ensures in
-    let some : has_outstanding m ≡ true = sym c.if-not-has-outstanding.ensures in
-    let room : packet_length m ≤ length buf = omega (arith, c.if-buf-length.false, c.packet-length-length.ensures) in
+    let free : is_some m.numbers.slip ≡ false = ap (λ (n : Numbers). is_some n.slip) (sym c.numbers.ensures) ∙ sym c.if-is_some.ensures in
+    let some : has_outstanding m ≡ true = sym c.if-not-has_outstanding.ensures in
+    let room : packet_length m ≤ length buf = omega (arith, c.if-buf-length.false, c.packet_length-length.ensures) in
     let granted = compose_room h id buf m free some room in
     let long : packet_length m ≡ length (packet_for h m) = sym (packet_long (words_for h m) h.store m) in
-    let size = c.packet-length-length.ensures ∙ long in
-    let written = ap (λ (w : Descriptor). packet_bytes w (records_for h.store m)) c.words-for.ensures in
+    let size = c.packet_length-length.ensures ∙ long in
+    let written = ap (λ (w : Descriptor). packet_bytes w (records_for h.store m)) c.words_for.ensures in
     record {
-      answer = told_alike h id _ _ _ _ _ _ size c.outstanding-actors.ensures.answer (ap (λ (n : Numbers). n.next) c.numbers-number.ensures) ∙ sym (ap (composition id) granted);
-      bytes = c.write-packet.ensures ∙ ap₂ (λ (p : List ℕ) (n : ℕ). p ++ drop n buf) written long ∙ sym (ap (packet_over h (Some m) buf) granted);
+      answer = told_alike h id _ _ _ _ _ _ size c.outstanding_actors.ensures.answer (ap (λ (n : Numbers). n.next) c.numbers-number.ensures) ∙ sym (ap (composition id) granted);
+      bytes = c.write_packet.ensures ∙ ap₂ (λ (p : List ℕ) (n : ℕ). p ++ drop n buf) written long ∙ sym (ap (packet_over h (Some m) buf) granted);
     }
