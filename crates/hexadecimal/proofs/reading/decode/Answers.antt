@@ -5,5 +5,5 @@ use Rattle.hexadecimal.proofs.reading.decode.Goals as goal
 pub returns : goal.returns
 returns c = record { answer = search rules; buffer = search rules; faithful = decode_faithful _ _ _ _ (search rules) (search rules) }
 
-pub returns-in-err-n : goal.returns-in-err-n
-returns-in-err-n c = record { answer = search rules; buffer = search rules; faithful = decode_faithful _ _ _ _ (search rules) (search rules) }
+pub returns-in_err-n : goal.returns-in_err-n
+returns-in_err-n c = record { answer = search rules; buffer = search rules; faithful = decode_faithful _ _ _ _ (search rules) (search rules) }

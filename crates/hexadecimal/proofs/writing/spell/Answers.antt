@@ -33,5 +33,5 @@ returns c =
     let all : 0 + n ≡ 2 * length s = omega arith in
     let left = c.loop-i.invariant ∙ paste_all out 0 (digits_of s) n end ∙ ap (λ (j : ℕ). digits_of s ++ drop j out) all in
     let front : take (2 * length s) c.loop-i.out ≡ digits_of s = ap (take (2 * length s)) left ∙ take_at (digits_of s) (drop (2 * length s) out) (2 * length s) long in
-    let spelt = digits_spell s (λ i. (c.type-inv.bytes i).fits) in
+    let spelt = digits_spell s (λ i. (c.type_inv.bytes i).fits) in
     record { buffer = left; spelt = rw front spelt; back = rw front (reads_back s spelt) }
