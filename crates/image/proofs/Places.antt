@@ -1,5 +1,5 @@
 -- A value written at its place: every other word of the block stays.
-use Rattle.std.proofs.Common.{◌≡◌, ℕ, ◌+◌, ◌-◌, ◌*◌, ◌/◌, ◌%◌, ◌<◌, ◌≤◌, Bool, true, false, cond, ◌&&◌, eqb, leb, ◌≢◌, ◌⊎◌, List, length, get_or, take, set, ℤ, Some, None, sym, refl, ap, ◌∙◌, ap₂, inl, inr, ⊎_elim, arith, length-set, get_or-set_other, get_or-set_same, to_z-of_z, w16, SFits, to_z, of_z}
+use Rattle.std.proofs.Common.{◌≡◌, ℕ, ◌+◌, ◌*◌, ◌/◌, ◌%◌, ◌<◌, ◌≤◌, Bool, true, false, cond, ◌&&◌, eqb, leb, ◌≢◌, ◌⊎◌, List, length, get_or, take, set, ℤ, Some, None, sym, refl, ap, ◌∙◌, ap₂, inl, inr, ⊎_elim, arith, length-set, get_or-set_other, get_or-set_same, to_z-of_z, w16, SFits, to_z, of_z}
 use lib.Seq.{take-set-lt}
 use mir.Facts.{Fits-of_z}
 use Rattle.std.proofs.lemmas.Bool.{eqb-true, eqb-false, cases_order, cases_eq, and_from, true≢false}
@@ -8,7 +8,8 @@ use Rattle.store.specs.declared.meaning.Half.{Half}
 use Rattle.store.specs.declared.meaning.Half.TheVariants.{Actual, Target}
 use Rattle.store.proofs.Meanings.{lawful_replaced}
 use Rattle.image.specs.Layout.{word_at, signed_at, page_count, length_of, place_of, pair_at, has_actor, actors_of, lawful_frame, lawful_values, lawful_block, block_in, written}
-use Rattle.image.specs.ValuesLemmas.{block_parts, inside, actor_bounds, value_lawful, all_lawful, count_in}
+use Rattle.image.specs.LawfulValues.{block_parts, actor_bounds, value_lawful}
+use Rattle.image.proofs.Values.{inside, all_lawful, count_in}
 
 -- the pairs of two actors stand apart
 apart : (i j : ℕ) → 1 ≤ i → i < j → place_of Actual i + 4 ≤ place_of Actual j

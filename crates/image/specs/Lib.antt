@@ -1,3 +1,3 @@
 pub mod Layout
 pub mod Images
-pub mod ValuesLemmas
+pub mod LawfulValues

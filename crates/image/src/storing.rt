@@ -3,7 +3,7 @@ ghost use Rattle.std.specs.Prelude.{◌≡◌, ◌≤◌, true, false, Ok};
 ghost use Rattle.store.specs.Meaning.{after_put, forbidden, put_answer};
 ghost use Rattle.image.specs.Images.{block_of};
 ghost use Rattle.image.specs.Layout.{actor_answer, actors_of, block_after, has_actor, image_over, page_count, place_of, written};
-ghost use Rattle.image.specs.ValuesLemmas.{lawful_actors};
+ghost use Rattle.image.specs.LawfulValues.{lawful_actors};
 
 use crate::block::Image;
 use crate::layout::{place_of, read_pair, write_value};
@@ -14,7 +14,7 @@ use store::value::check_value;
 impl ActorStore for Image {
     ghost meaning = { λ s. actors_of (block_of s) };
 
-    ghost lawful = { λ s a. lawful-actors (block_of s) a s.lawful };
+    ghost lawful = { λ s a. lawful_actors (block_of s) a s.lawful };
 
     fn read(&self, actor: u16) -> Result<(i16, i16), Fault> {
         self.check_actor(actor)?;

@@ -1,6 +1,7 @@
 use Rattle.std.proofs.Common.{refl, arith}
 use Rattle.image.specs.Layout.{block_in}
-use Rattle.image.specs.ValuesLemmas.{count_in, framed, block_parts}
+use Rattle.image.specs.LawfulValues.{block_parts}
+use Rattle.image.proofs.Values.{count_in, framed}
 use Rattle.image.proofs.block.Image.page_count.Goals as goal
 
 pub returns : goal.returns

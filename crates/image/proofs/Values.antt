@@ -1,11 +1,12 @@
 -- A block's frame and its actors' values, one by one.
-use Rattle.std.specs.Prelude.{◌≡◌, ℕ, zero, suc, ◌+◌, ◌-◌, ◌*◌, ◌<◌, ◌≤◌, Bool, true, false, ◌&&◌, ◌⊎◌, List, ◌++◌, length, take, Some, None, ◌==◌, nat_le, refl}
-use Rattle.std.proofs.Common.{sym, ap, ◌∙◌, inl, inr, ⊎_elim, arith}
+use Rattle.std.specs.Prelude.{◌≡◌, ℕ, zero, suc, ◌+◌, ◌-◌, ◌*◌, ◌≤◌, Bool, true, false, ◌&&◌, List, ◌++◌, length, take, Some, ◌==◌, nat_le, refl, ◌<◌}
+use Rattle.std.proofs.Common.{sym, ap, ◌∙◌, ⊎_elim, arith}
 use Rattle.std.proofs.lemmas.List.{get_or_append_left, get_or-take, take_at}
-use Rattle.std.proofs.lemmas.Bool.{and_parts, and_from, leb-true, eqb-true, cond_both, cases_order, true≢false}
+use Rattle.std.proofs.lemmas.Bool.{and_parts, and_from, leb-true, eqb-true, cases_order, true≢false}
 use Rattle.store.specs.Meaning.{lawful_pair}
 use Rattle.store.specs.declared.meaning.Half.TheVariants.{Target}
-use Rattle.image.specs.Layout.{word_at, page_count, right_frame, right_count, right_length, length_of, place_of, pair_at, has_actor, actors_of, lawful_values, lawful_frame, lawful_block, block_in}
+use Rattle.image.specs.Layout.{word_at, page_count, right_frame, right_count, right_length, length_of, place_of, pair_at, lawful_values, lawful_frame, block_in}
+use Rattle.image.specs.LawfulValues.{value_lawful}
 
 pub record Framed (bytes : List ℕ) : Type 0 where
   pub some : 1 ≤ page_count bytes
@@ -20,9 +21,6 @@ framed bytes h =
     let r = and_parts (length bytes == length_of n) (word_at bytes 2 == length_of n) p.1 in
     record { some = leb-true _ _ q.0; few = leb-true _ _ q.1; long = eqb-true _ _ r.0 }
 
-pub block_parts : (bytes : List ℕ) → lawful_block bytes ≡ true → (lawful_frame bytes ≡ true) × (lawful_values bytes (4 * page_count bytes) ≡ true)
-block_parts bytes h = and_parts (lawful_frame bytes) (lawful_values bytes (4 * page_count bytes)) h
-
 -- the block at the front of its room
 pub at_front : (bytes rest : List ℕ) → lawful_frame bytes ≡ true → block_in (bytes ++ rest) ≡ bytes
 at_front bytes rest h =
@@ -33,23 +31,6 @@ at_front bytes rest h =
 -- every value of an actor stands inside the block
 pub inside : (n i : ℕ) → 1 ≤ i → i ≤ 4 * n → place_of Target i + 1 < length_of n
 inside n i o m = omega arith
-
-pub actor_bounds : (n i : ℕ) → has_actor n i ≡ true → (1 ≤ i) × (i ≤ 4 * n)
-actor_bounds n i h =
-    let p = and_parts (nat_le 1 i) (nat_le i (4 * n)) h in
-    (leb-true _ _ p.0, leb-true _ _ p.1)
-
-pub value_lawful : (bytes : List ℕ) (n i : ℕ) → lawful_values bytes n ≡ true → 1 ≤ i → i ≤ n → lawful_pair (Some (pair_at bytes i)) ≡ true
-value_lawful bytes zero i h o l = absurd (omega arith)
-value_lawful bytes (suc n) i h o l = go (cases_order i (suc n)) (value_lawful bytes n i p.1 o)
-  where
-    p : (lawful_pair (Some (pair_at bytes (suc n))) ≡ true) × (lawful_values bytes n ≡ true)
-    p = and_parts (lawful_pair (Some (pair_at bytes (suc n)))) (lawful_values bytes n) h
-
-    go : (i ≡ suc n) ⊎ ((i < suc n) ⊎ (suc n < i)) → (i ≤ n → lawful_pair (Some (pair_at bytes i)) ≡ true) → lawful_pair (Some (pair_at bytes i)) ≡ true
-    go (inl e) rest = ap (λ j. lawful_pair (Some (pair_at bytes j))) e ∙ p.0
-    go (inr (inl k)) rest = rest (omega arith)
-    go (inr (inr k)) rest = absurd (omega arith)
 
 pub all_lawful : (bytes : List ℕ) (n : ℕ) → ((i : ℕ) → 1 ≤ i → i ≤ n → lawful_pair (Some (pair_at bytes i)) ≡ true) → lawful_values bytes n ≡ true
 all_lawful bytes zero h = refl
@@ -68,11 +49,6 @@ spoilt bytes n i o l f = go (lawful_values bytes n) refl
 pub lawful_more : (bytes : List ℕ) (i : ℕ) → 1 ≤ i → lawful_values bytes (i - 1) ≡ true → lawful_pair (Some (pair_at bytes i)) ≡ true → lawful_values bytes (i + 1 - 1) ≡ true
 lawful_more bytes i o h l =
     all_lawful bytes (i + 1 - 1) (λ k p m. ⊎_elim (λ e. ap (λ j. lawful_pair (Some (pair_at bytes j))) e ∙ l) (λ w. ⊎_elim (λ q. value_lawful bytes (i - 1) k h p (omega arith)) (λ q. absurd (omega arith)) w) (cases_order k i))
-
-pub lawful_actors : (bytes : List ℕ) (i : ℕ) → lawful_block bytes ≡ true → lawful_pair (actors_of bytes i) ≡ true
-lawful_actors bytes i h =
-    cond_both (has_actor (page_count bytes) i) (Some (pair_at bytes i)) None (λ o. lawful_pair o ≡ true)
-    (λ t. value_lawful bytes (4 * page_count bytes) i (block_parts bytes h).1 (actor_bounds _ i t).0 (actor_bounds _ i t).1) (λ _. refl)
 
 -- Page.Count stands in every block
 pub count_in : (room : List ℕ) → page_count (block_in room) ≡ page_count room
