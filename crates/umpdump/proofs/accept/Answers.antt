@@ -5,8 +5,8 @@ use Rattle.umpdump.proofs.Wholes.{accepts, reads}
 use Rattle.umpdump.proofs.accept.Goals as goal
 
 -- the payload that was read is the front of the buffer
-read : (c : goal.In-ok-packet) → Ok c.in-ok-packet.packet ≡ packet_of (reading_of (take c.in-ok-length.length c.decode.new.out))
-read c = simp sub-zero at c.in-ok-packet.ensures.answer
+read : (c : goal.In_ok-packet) → Ok c.in_ok-packet.packet ≡ packet_of (reading_of (take c.in_ok-length.length c.decode.new.out))
+read c = simp sub-zero at c.in_ok-packet.ensures.answer
 
 pub returns : goal.returns
-returns c = record { answer = accepts _ _ _ _ c.in-ok-length.ensures.answer (read c); whole = (search rules, reads (take c.in-ok-length.length c.decode.new.out) _ (sym (read c))) }
+returns c = record { answer = accepts _ _ _ _ c.in_ok-length.ensures.answer (read c); whole = (search rules, reads (take c.in_ok-length.length c.decode.new.out) _ (sym (read c))) }

@@ -9,8 +9,8 @@ pub returns-then-end-text : goal.returns-then-end-text
 returns-then-end-text c =
     let s = c.args.text.now in
     let n = length_to c.args.separator s in
-    let r = c.length-to-end.result in
-    let e : r ≡ n = c.length-to-end.ensures.answer in
+    let r = c.length_to-end.result in
+    let e : r ≡ n = c.length_to-end.ensures.answer in
     let front : r - 0 ≡ n = omega arith in
     let behind : r + 1 ≡ suc n = omega arith in
     let within : n < length s = omega arith in
@@ -24,6 +24,6 @@ pub returns-else-end-text : goal.returns-else-end-text
 returns-else-end-text c =
     let s = c.args.text.now in
     let n = length_to c.args.separator s in
-    let e : c.length-to-end.result ≡ n = c.length-to-end.ensures.answer in
+    let e : c.length_to-end.result ≡ n = c.length_to-end.ensures.answer in
     let long : length s ≤ n = omega arith in
     record { answer = cond-false (ltb n (length s)) (Some (take n s, drop (n + 1) s)) None (le-ltb n (length s) long); parts = one_part c.args.separator s long; shorter = tt }
