@@ -12,14 +12,14 @@ returns-in-Enrol g c =
 pub returns-in-Actual : goal.returns-in-Actual
 returns-in-Actual g c =
     let m = g.S.ActorStore.meaning in
-    same_value (hub_model m c.args.hub.now) (hub_model m c.set-actual.new.self) c.in-Actual.actor Actual (to_z w16 (of_z w16 c.in-Actual.value)) c.set-actual.ensures.after
+    same_value (hub_model m c.args.hub.now) (hub_model m c.set_actual.new.self) c.in-Actual.actor Actual (to_z w16 (of_z w16 c.in-Actual.value)) c.set_actual.ensures.after
 
 pub returns-in-Target : goal.returns-in-Target
 returns-in-Target g c =
     let m = g.S.ActorStore.meaning in
-    same_value (hub_model m c.args.hub.now) (hub_model m c.set-target.new.self) c.in-Target.actor Target (to_z w16 (of_z w16 c.in-Target.value)) c.set-target.ensures.after
+    same_value (hub_model m c.args.hub.now) (hub_model m c.set_target.new.self) c.in-Target.actor Target (to_z w16 (of_z w16 c.in-Target.value)) c.set_target.ensures.after
 
 pub returns-in-Control : goal.returns-in-Control
 returns-in-Control g c =
     let m = g.S.ActorStore.meaning in
-    same_control (hub_model m c.args.hub.now) (hub_model m c.set-control.new.self) c.in-Control.switch c.in-Control.word c.set-control.ensures.after
+    same_control (hub_model m c.args.hub.now) (hub_model m c.set_control.new.self) c.in-Control.switch c.in-Control.word c.set_control.ensures.after

@@ -15,8 +15,8 @@ returns-in-Some g c =
     let i = c.in-Some.i in
     let fate = c.args.fate in
     let wanted : Slip = record { switch = s; number = n } in
-    let there : place_for s n xs ≡ Some i = ap (place_for s n) (sym c.as-slice.ensures.value) ∙ sym c.in-Some.ensures.answer in
+    let there : place_for s n xs ≡ Some i = ap (place_for s n) (sym c.as_slice.ensures.value) ∙ sym c.in-Some.ensures.answer in
     record {
-      all = c.hand-in.ensures.all;
-      after = c.hand-in.ensures.after wanted ∙ ap (λ (x : Slip). hub_after h (handed_in fate h x)) (place_is s n xs i wanted there) ∙ sym (ap (handed_for fate h s n) there);
+      all = c.hand_in.ensures.all;
+      after = c.hand_in.ensures.after wanted ∙ ap (λ (x : Slip). hub_after h (handed_in fate h x)) (place_is s n xs i wanted there) ∙ sym (ap (handed_for fate h s n) there);
     }

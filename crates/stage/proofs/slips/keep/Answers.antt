@@ -9,12 +9,12 @@ withhold-requires g c =
     let h = hub_model g.S.ActorStore.meaning c.args.hub.now in
     let xs = vec_items c.args.held.now in
     let x = c.in-Err.back.value in
-    withheld_owed h xs [] x (holds_as h h (xs ++ c.args.slip ∷ []) (xs ++ x ∷ []) refl (ap (λ (y : Slip). xs ++ y ∷ []) c.in-Err.ensures.value-returned) c.requires)
+    withheld_owed h xs [] x (holds_as h h (xs ++ c.args.slip ∷ []) (xs ++ x ∷ []) refl (ap (λ (y : Slip). xs ++ y ∷ []) c.in-Err.ensures.value_returned) c.requires)
 
 pub returns-in-Err : goal.returns-in-Err
 returns-in-Err g c =
     let h = hub_model g.S.ActorStore.meaning c.args.hub.now in
     let xs = vec_items c.args.held.now in
     let x = c.in-Err.back.value in
-    let left = withheld_left h xs [] x (holds_as h h (xs ++ c.args.slip ∷ []) (xs ++ x ∷ []) refl (ap (λ (y : Slip). xs ++ y ∷ []) c.in-Err.ensures.value-returned) c.requires) in
+    let left = withheld_left h xs [] x (holds_as h h (xs ++ c.args.slip ∷ []) (xs ++ x ∷ []) refl (ap (λ (y : Slip). xs ++ y ∷ []) c.in-Err.ensures.value_returned) c.requires) in
     holds_as _ _ (xs ++ []) _ c.withhold.ensures (c.in-Err.ensures.items ∙ sym (append-nil xs)) left
