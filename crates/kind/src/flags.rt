@@ -1,7 +1,6 @@
 // Two kinds of 32 bits under a mask: how a switch reports itself, and how it is told to behave.
 ghost use Rattle.kind.specs.Kinds.{control, state};
-ghost use Rattle.std.proofs.Common.{arith};
-ghost use Rattle.kind.specs.Laws.{flags_lawful};
+ghost use Rattle.kind.specs.Laws.{control_lawful, state_lawful};
 
 use crate::message::Kind;
 
@@ -23,7 +22,7 @@ impl Kind for State {
 
     ghost layout = { state };
 
-    ghost lawful = { flags_lawful 0x01 0x1F0F18FF (omega arith) (omega arith) };
+    ghost lawful = { state_lawful };
 
     fn message_id() -> u8 {
         Self::ID
@@ -62,7 +61,7 @@ impl Kind for Control {
 
     ghost layout = { control };
 
-    ghost lawful = { flags_lawful 0x21 0x1F00FFBF (omega arith) (omega arith) };
+    ghost lawful = { control_lawful };
 
     fn message_id() -> u8 {
         Self::ID

@@ -1,7 +1,6 @@
 // Two kinds of one signed word: an actor's target and its actual value.
 ghost use Rattle.kind.specs.Kinds.{edit_value, real_value};
-ghost use Rattle.std.proofs.Common.{arith};
-ghost use Rattle.kind.specs.Laws.{value_lawful};
+ghost use Rattle.kind.specs.Laws.{edit_value_lawful, real_value_lawful};
 
 use crate::message::Kind;
 
@@ -18,7 +17,7 @@ impl Kind for EditValue {
 
     ghost layout = { edit_value };
 
-    ghost lawful = { value_lawful 0x42 (omega arith) };
+    ghost lawful = { edit_value_lawful };
 
     fn message_id() -> u8 {
         Self::ID
@@ -58,7 +57,7 @@ impl Kind for RealValue {
 
     ghost layout = { real_value };
 
-    ghost lawful = { value_lawful 0x43 (omega arith) };
+    ghost lawful = { real_value_lawful };
 
     fn message_id() -> u8 {
         Self::ID
