@@ -1,5 +1,5 @@
 -- The six kinds.
-use Rattle.std.specs.Prelude.{ℕ, ◌+◌, ◌*◌, ◌/◌, ◌%◌, ◌^◌, ◌<◌, Bool, cond, not, List, [], ◌∷◌, ℤ, pos, Some, None, Option, FitsSigned, ◌==◌, bit_and, slice_index}
+use Rattle.std.specs.Prelude.{ℕ, ◌+◌, ◌*◌, ◌/◌, ◌%◌, Bool, cond, not, List, [], ◌∷◌, ℤ, Some, None, Option, FitsSigned, ◌==◌, bit_and, slice_index}
 use Rattle.std.proofs.Common.{to_z, of_z}
 use Rattle.std.specs.Int.{w16}
 use Rattle.kind.specs.Layout.{Layout, word, word_bytes}

@@ -1,5 +1,5 @@
 -- Each of the six kinds is lawful.
-use Rattle.std.specs.Prelude.{◌≡◌, ℕ, ◌+◌, ◌^◌, ◌<◌, ◌≤◌, List, length, ℤ, Some, None, Option, refl}
+use Rattle.std.specs.Prelude.{◌≡◌, ℕ, ◌+◌, ◌^◌, ◌<◌, length, ℤ, Some, None, Option, refl}
 use Rattle.std.proofs.Common.{arith}
 use Rattle.kind.specs.Kinds.{ReadingFits, control, edit_value, event, flags, real_value, state, temperature, value}
 use Rattle.kind.specs.Layout.{Lawful}

@@ -9,7 +9,7 @@ use Rattle.packet.specs.Drafts.{WordsFit}
 use Rattle.packet.specs.Words.{major}
 use Rattle.store.specs.declared.meaning.Half.{Half}
 use Rattle.store.specs.declared.meaning.Half.TheVariants.{Target}
-use Rattle.store.specs.Meaning.{Known, lawful, put_answer}
+use Rattle.store.specs.Meaning.{Known, put_answer}
 use Rattle.model.specs.declared.mark.Mark.TheVariants.{Due}
 use Rattle.model.specs.declared.told.Arrival.{Arrival}
 use Rattle.model.specs.declared.told.Site.{Site}

@@ -1,5 +1,5 @@
 -- The hub as the rules see it: its opening words, its switches in order of enrolment, and what its store means.
-use Rattle.std.specs.Prelude.{ℕ, Bool, true, false, cond, ◌||◌, List, [], ◌∷◌, map, Some, None, Ok, Err, Option, Result, ◌==◌}
+use Rattle.std.specs.Prelude.{ℕ, Bool, false, cond, ◌||◌, List, [], ◌∷◌, map, Some, None, Ok, Err, Option, Result, ◌==◌}
 use Rattle.fault.specs.declared.Fault.{Fault}
 use Rattle.store.specs.Meaning.{Known}
 use Rattle.model.specs.declared.item.Item.{Item}

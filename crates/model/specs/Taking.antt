@@ -17,9 +17,6 @@ use Rattle.model.specs.declared.item.Item.{Item}
 use Rattle.model.specs.declared.mark.Change.TheVariants.{Answered, Changed}
 use Rattle.model.specs.declared.told.Arrival.{Arrival}
 use Rattle.model.specs.declared.told.Arrival.TheVariants as arrival
-use Rattle.model.specs.declared.told.KeyPress.{KeyPress}
-use Rattle.model.specs.declared.told.Numbers.{Numbers}
-use Rattle.model.specs.declared.told.Report.{Report}
 use Rattle.model.specs.Models.{HubModel, Step, SwitchModel, all_moved, change_switch, find_switch, hub_after, lists_actor, with_numbers, with_report}
 use Rattle.model.specs.Settings.{set_value}
 

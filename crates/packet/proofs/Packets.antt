@@ -1,16 +1,14 @@
 -- A closed draft's packet reads back as its words and its records.
-use Rattle.std.proofs.Common.{◌≡◌, ℕ, ◌+◌, ◌-◌, ◌*◌, ◌/◌, ◌%◌, ◌^◌, ◌<◌, ◌≤◌, Bool, true, false, cond, not, eqb, ltb, List, [], ◌∷◌, ◌++◌, length, get_or, take, drop, ℤ, Some, None, Ok, Err, Option, Result, sym, refl, ap, ◌∙◌, subst, ap₂, arith}
-use Rattle.std.proofs.lemmas.List.{append_assoc, append-nil, drop_at, flat_map_more, length-append, length-drop, length-take, length-take-le, take-append-drop, take-append-le, take_at}
-use Rattle.std.proofs.lemmas.Bool.{cond-false, eqb-true, le-ltb, ltb-false, not-false, not_from_true, or_parts}
+use Rattle.std.proofs.Common.{◌≡◌, ℕ, ◌+◌, ◌^◌, ◌<◌, ◌≤◌, true, false, not, eqb, ltb, List, [], ◌∷◌, ◌++◌, length, get_or, take, drop, Some, None, Ok, sym, refl, ap, ◌∙◌, ap₂, arith}
+use Rattle.std.proofs.lemmas.List.{append_assoc, drop_at, flat_map_more, length-append, length-drop, length-take, length-take-le, take-append-drop, take_at}
+use Rattle.std.proofs.lemmas.Bool.{cond-false, eqb-true, ltb-false, not-false, or_parts}
 use Rattle.std.specs.List.{flat_map}
-use Rattle.fault.specs.declared.Fault.{Fault}
 use Rattle.kind.specs.Kinds.{control, edit_value, event, real_value, state, temperature}
-use Rattle.kind.specs.Layout.{Layout, Lawful, broken, message_of, read_of, word, word_bytes}
+use Rattle.kind.specs.Layout.{Layout, Lawful, broken, message_of, read_of, word_bytes}
 use Rattle.kind.specs.Laws.{event_lawful, flags_lawful, temperature_lawful, value_lawful}
 use Rattle.kind.proofs.Messages.{reads_back}
 use Rattle.kind.specs.Words.{word_round}
 use Rattle.packet.specs.declared.drafting.Draft.{Draft}
-use Rattle.packet.specs.declared.records.Message.{Message}
 use Rattle.packet.specs.declared.records.Message.TheVariants.{Known}
 use Rattle.packet.specs.declared.records.Record.{Record}
 use Rattle.packet.specs.declared.records.Record.TheVariants.{State, Control, EditValue, RealValue, Event, Temperature}

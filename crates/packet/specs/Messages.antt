@@ -3,7 +3,7 @@ use Rattle.std.specs.Prelude.{ℕ, zero, suc, pred, ◌+◌, Bool, true, false, 
 use Rattle.fault.specs.declared.MessageFault.TheVariants.{Broken}
 use Rattle.fault.specs.declared.Fault.{Fault}
 use Rattle.fault.specs.declared.Fault.TheVariants as fault
-use Rattle.kind.specs.Layout.{Layout, broken, read_of}
+use Rattle.kind.specs.Layout.{broken, read_of}
 use Rattle.kind.specs.Kinds.{state, control, edit_value, real_value, event, temperature}
 use Rattle.packet.specs.declared.records.Record.{Record}
 use Rattle.packet.specs.declared.records.Record.TheVariants.{State, Control, EditValue, RealValue, Event, Temperature}

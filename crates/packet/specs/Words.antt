@@ -1,5 +1,5 @@
 -- The descriptor of a payload: eight little-endian words at their byte offsets.
-use Rattle.std.specs.Prelude.{ℕ, ◌+◌, ◌*◌, ◌/◌, Bool, cond, not, ◌||◌, List, length, Ok, Err, Result, ◌==◌, nat_lt}
+use Rattle.std.specs.Prelude.{ℕ, ◌/◌, cond, not, ◌||◌, List, length, Ok, Err, Result, ◌==◌, nat_lt}
 use Rattle.fault.specs.declared.FrameFault.TheVariants as frame
 use Rattle.fault.specs.declared.Fault.{Fault}
 use Rattle.fault.specs.declared.Fault.TheVariants.{Frame}

@@ -1,5 +1,5 @@
 -- Lines that an engineer would write, and near misses, run through the definitions.
-use Rattle.std.proofs.Common.{◌≡◌, ℕ, [], ◌∷◌, pos, neg_ℤ, Some, None, codes, refl}
+use Rattle.std.proofs.Common.{◌≡◌, [], ◌∷◌, pos, neg_ℤ, Some, None, codes, refl}
 use Rattle.hexadecimal.specs.Lines.{length_to}
 use Rattle.script.specs.Calls as calls
 use Rattle.script.specs.Calls.{call_in}

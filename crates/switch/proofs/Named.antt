@@ -1,5 +1,5 @@
 -- Items that name an actor, through every change of their marks.
-use Rattle.std.proofs.Common.{◌≡◌, ℕ, Bool, true, false, cond, not, ◌&&◌, ◌||◌, eqb, List, [], ◌∷◌, map, sym, refl, ap, ◌∙◌, ap₂}
+use Rattle.std.proofs.Common.{◌≡◌, ℕ, Bool, true, false, cond, not, ◌&&◌, eqb, List, [], ◌∷◌, map, refl, ap₂}
 use Rattle.std.proofs.lemmas.Bool.{and_from, not_from_false, or_parts}
 use Rattle.model.specs.declared.item.Item.{Item}
 use Rattle.model.specs.Models.{is_actor, moved_item, touched_item}

@@ -1,4 +1,4 @@
-use Rattle.std.proofs.Common.{◌≡◌, ℕ, ◌+◌, List, ◌++◌, take, drop, sym, ap, ◌∙◌, subst, ap₂}
+use Rattle.std.proofs.Common.{ℕ, ◌+◌, List, ◌++◌, take, sym, ◌∙◌, subst, ap₂}
 use Rattle.std.proofs.lemmas.List.{drop-drop}
 use Rattle.packet.specs.Drafts.{ReadsBack}
 use Rattle.packet.proofs.Packets.{packet_back}

@@ -1,4 +1,4 @@
-use Rattle.std.proofs.Common.{◌≡◌, sym, ◌∙◌, arith, rules}
+use Rattle.std.proofs.Common.{sym, ◌∙◌, arith, rules}
 use Rattle.script.proofs.Digits.{all_read, more_at, number_is, stop_at}
 use Rattle.script.proofs.numbers.number.Goals as goal
 

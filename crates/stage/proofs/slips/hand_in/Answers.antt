@@ -1,4 +1,4 @@
-use Rattle.std.proofs.Common.{◌≡◌, suc, ◌<◌, ◌∷◌, ◌++◌, length, take, drop, vec_items, sym, refl, ◌∙◌, ap₂, arith}
+use Rattle.std.proofs.Common.{suc, ◌++◌, take, drop, vec_items, sym, ◌∙◌, ap₂, arith}
 use Rattle.std.proofs.lemmas.List.{get_or_read}
 use Rattle.model.specs.Models.{hub_after}
 use Rattle.hub.specs.Memory.{hub_model}

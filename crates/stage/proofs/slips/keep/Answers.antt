@@ -1,4 +1,4 @@
-use Rattle.std.proofs.Common.{◌≡◌, List, [], ◌∷◌, ◌++◌, vec_items, sym, refl, ap, ◌∙◌, append-nil}
+use Rattle.std.proofs.Common.{[], ◌∷◌, ◌++◌, vec_items, sym, refl, ap, ◌∙◌, append-nil}
 use Rattle.hub.specs.Memory.{hub_model}
 use Rattle.hub.specs.declared.slip.Slip.{Slip}
 use Rattle.stage.proofs.Out.{holds_as, withheld_left, withheld_owed}

@@ -1,5 +1,4 @@
 use Rattle.std.proofs.Common.{get_or, ap}
-use Rattle.model.specs.declared.item.Item.{Item}
 use Rattle.model.specs.declared.mark.Mark.{Mark}
 use Rattle.model.specs.Models.{moved_item}
 use Rattle.switch.proofs.Maps.{map_done, map_more}

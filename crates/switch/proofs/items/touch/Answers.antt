@@ -1,6 +1,5 @@
 use Rattle.std.proofs.Common.{get_or, sym, ap, ◌∙◌}
 use Rattle.std.proofs.lemmas.Bool.{cond-false, cond-true, eq-eqb, ne_eqb}
-use Rattle.model.specs.declared.item.Item.{Item}
 use Rattle.model.specs.declared.mark.Mark.{Mark}
 use Rattle.model.specs.Models.{touched_item}
 use Rattle.switch.proofs.Maps.{map_done, map_more}

@@ -1,4 +1,4 @@
-use Rattle.std.proofs.Common.{◌≡◌, eqb, List, map, Some, sym, refl, ◌∙◌}
+use Rattle.std.proofs.Common.{eqb, List, map, Some, sym, refl, ◌∙◌}
 use Rattle.std.proofs.lemmas.Bool.{eq-eqb, ne_eqb}
 use Rattle.model.specs.Models.{find_switch}
 use Rattle.switch.specs.declared.memory.Switch.{Switch}

@@ -1,5 +1,4 @@
-use Rattle.std.proofs.Common.{◌≡◌, ◌≤◌, List, map, length, take, ap, ◌∙◌, arith}
-use Rattle.std.proofs.lemmas.List.{length-map}
+use Rattle.std.proofs.Common.{◌≤◌, List, length, take, ap, ◌∙◌, arith}
 use Rattle.model.specs.declared.item.Item.{Item}
 use Rattle.model.specs.Models.{touched_item, with_marks}
 use Rattle.switch.specs.Memory.{switch_model}
