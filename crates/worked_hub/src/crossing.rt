@@ -13,7 +13,10 @@ fn crossing(rt: HostRuntime) -> Result<(), Fail> {
     let mut packet = [0; 48];
     hub.set_target(1, 220)?;
     assert_eq!(rt; send(&mut hub, 7, &mut packet)?, (48, 2, 1));
-    assert_eq!(rt; &packet[22..28], &[0x06, 0x42, 0x01, 0x00, 0xDC, 0x00]);
+    assert_eq!(rt;
+        &packet[22..28],
+        [0x06_u8, 0x42, 0x01, 0x00, 0xDC, 0x00].as_slice()
+    );
     hub.set_target(1, 230)?;
     assert_eq!(rt; told(&mut hub, &packet), Ok(('a', 5)));
     assert!(rt; is_due(hub.actor_mark(7, 1)));
@@ -23,9 +26,10 @@ fn crossing(rt: HostRuntime) -> Result<(), Fail> {
     assert_eq!(rt; send(&mut hub, 7, &mut next)?, (28, 1, 2));
     assert_eq!(rt;
         &next[16..30],
-        &[
-            0x06, 0x43, 0x01, 0x00, 0x00, 0x00, 0x06, 0x42, 0x01, 0x00, 0xE6, 0x00, 0xFF, 0xFF,
+        [
+            0x06_u8, 0x43, 0x01, 0x00, 0x00, 0x00, 0x06, 0x42, 0x01, 0x00, 0xE6, 0x00, 0xFF, 0xFF,
         ]
+        .as_slice()
     );
     assert_eq!(rt; told(&mut hub, &next[0..28]), Ok(('a', 2)));
     assert!(rt; !hub.has_outstanding(7)?);
