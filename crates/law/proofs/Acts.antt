@@ -1,6 +1,6 @@
 -- What a switch sends and does: what holds of it is kept.
 use Rattle.std.proofs.Common.{◌≡◌, ℕ, suc, ◌<◌, ◌≤◌, Bool, true, false, cond, eqb, List, [], ◌∷◌, ◌++◌, ℤ, Some, Option, sym, refl, ap, ◌∙◌, subst, inl, inr, append-nil, arith}
-use Rattle.std.specs.List.{AllByRecursion as All}
+use Rattle.std.specs.List.{AllByRecursion}
 use Rattle.std.proofs.lemmas.Bool.{eqb-false}
 use Rattle.std.proofs.ByRecursion.{All-push}
 use Rattle.store.specs.declared.meaning.Half.TheVariants.{Target}
@@ -31,7 +31,7 @@ here_loses_payload st o e p rest q h =
         passed = l.passed;
         behind = l.behind;
         ahead = l.ahead;
-        coming = (subst (All (PayloadFine e.display.acts e.line_to.delivered)) q l.coming).1;
+        coming = (subst (AllByRecursion (PayloadFine e.display.acts e.line_to.delivered)) q l.coming).1;
         taken = l.taken;
       },
       switch_stays st o e (with_line_from rest e) refl refl (mark_line_from e rest) h.1,
@@ -111,7 +111,7 @@ here_restarted st o e h =
         passed = l.passed;
         behind = l.behind;
         ahead = l.ahead;
-        coming = subst (All (PayloadFine (suc e.display.acts) e.line_to.delivered)) (sym (append-nil e.line_from)) (all_then (payload_act _ _) _ l.coming);
+        coming = subst (AllByRecursion (PayloadFine (suc e.display.acts) e.line_to.delivered)) (sym (append-nil e.line_from)) (all_then (payload_act _ _) _ l.coming);
         taken = all_then (payload_act _ _) _ l.taken;
       },
       switch_stays st o e (acting (restarted e.display) [] e) refl refl

@@ -1,6 +1,6 @@
 -- A payload that take accepts: what holds of its switch is kept, and the awaited answer settles what is under way.
 use Rattle.std.proofs.Common.{◌≡◌, ℕ, suc, Bool, true, false, cond, eqb, List, [], ◌∷◌, ℤ, is_some, Some, None, Option, sym, refl, ap, ◌∙◌, subst, inl, inr, ⊎_elim, arith}
-use Rattle.std.specs.List.{AllByRecursion as All}
+use Rattle.std.specs.List.{AllByRecursion}
 use Rattle.std.proofs.lemmas.Bool.{eqb-true}
 use Rattle.store.specs.Meaning.{Known}
 use Rattle.model.specs.declared.item.Item.{Item}
@@ -52,19 +52,19 @@ kept_accepted st (Some m) e p rest n f =
         let r = listed_entry x.actor m.items (both m.items f.items (n x.actor y t g.known)) l in
         g.marked ∙ ap f.marks (sym r.1) ∙ sym r.2.0.marked ∙ r.2.1 r.1
       where
-        both : (xs : List Item) → All (ItemFine st f.marks e) xs → All (λ z. z.actor ≡ x.actor → z.mark ≡ Due) xs
-            → All (λ z. ItemFine st f.marks e z × (z.actor ≡ x.actor → z.mark ≡ Due)) xs
+        both : (xs : List Item) → AllByRecursion (ItemFine st f.marks e) xs → AllByRecursion (λ z. z.actor ≡ x.actor → z.mark ≡ Due) xs
+            → AllByRecursion (λ z. ItemFine st f.marks e z × (z.actor ≡ x.actor → z.mark ≡ Due)) xs
         both [] p q = tt
         both (z ∷ zs) p q = ((p.0, q.0), both zs p.1 q.1)
 
 pub lines_accepted : (e : End) (p : Payload) (rest : List Payload) → e.line_from ≡ p ∷ rest → Lines e → Lines (accepts p rest e)
 lines_accepted e p rest q l =
-    let u = subst (All (PayloadFine e.display.acts e.line_to.delivered)) q l.coming in
+    let u = subst (AllByRecursion (PayloadFine e.display.acts e.line_to.delivered)) q l.coming in
     record { passed = l.passed; behind = l.behind; ahead = l.ahead; coming = u.1; taken = (u.0, l.taken) }
 
 -- the head of the line
 pub head_fine : (e : End) (p : Payload) (rest : List Payload) → e.line_from ≡ p ∷ rest → Lines e → PayloadFine e.display.acts e.line_to.delivered p
-head_fine e p rest q l = (subst (All (PayloadFine e.display.acts e.line_to.delivered)) q l.coming).0
+head_fine e p rest q l = (subst (AllByRecursion (PayloadFine e.display.acts e.line_to.delivered)) q l.coming).0
 
 -- a payload that tells an act is an event that makes the actor due
 pub tells_hits : (n : ℕ) (ps : List Packet) (p : Payload) → PayloadFine n ps p → (a : ℕ) (x : Act) → Tells a x p
@@ -99,7 +99,7 @@ mark_answered values a e c s d z Settled g = g
 mark_answered values a e c s d z Due g = tt
 mark_answered values a e c s d z UnderWay g =
     let q : c ≡ g.0 = (let x = g.1 in omega arith) in
-    (g.3 (subst (λ (n : ℕ). Delivered n e.line_to.delivered) q d), subst (All (λ p. Silent a (said_by p))) (sym z) tt)
+    (g.3 (subst (λ (n : ℕ). Delivered n e.line_to.delivered) q d), subst (AllByRecursion (λ p. Silent a (said_by p))) (sym z) tt)
 
 switch_answered : (st : Known) (m : SwitchModel) (e : End) (c : ℕ) → e.line_to.composed ≡ suc c → Delivered c e.line_to.delivered → Lines e → SwitchFine st m e → SwitchFine st (answered m) e
 switch_answered st m e c s d l f =

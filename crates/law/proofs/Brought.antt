@@ -1,6 +1,6 @@
 -- Which values messages bring to a switch, and what it then shows.
 use Rattle.std.proofs.Common.{◌≡◌, ℕ, Bool, true, false, cond, ◌&&◌, eqb, ◌⊎◌, List, [], ◌∷◌, ℤ, Some, None, Option, sym, refl, ap, ◌∙◌, subst, inl, inr, ⊎_elim}
-use Rattle.std.specs.List.{AllByRecursion as All}
+use Rattle.std.specs.List.{AllByRecursion}
 use Rattle.std.proofs.lemmas.Bool.{and_parts, cases_Bool, eq-eqb, eqb-true, ne_eqb, true≢false}
 use Rattle.packet.specs.declared.records.Message.{Message}
 use Rattle.store.specs.declared.meaning.Half.{Half}
@@ -44,10 +44,10 @@ BringsSlot k (Some x) = x.0 ≡ k
 
 -- no message brings actor a; those that bring it bring these values; each of its two slots is brought
 abbrev pub Silent : ℕ → List Message → Type 0
-Silent a ms = All (λ m. Brings (λ k v. k.actor ≡ a → ⊥) (brought_by m)) ms
+Silent a ms = AllByRecursion (λ m. Brings (λ k v. k.actor ≡ a → ⊥) (brought_by m)) ms
 
 abbrev pub Agrees : ℤ × ℤ → ℕ → List Message → Type 0
-Agrees values a ms = All (λ m. Brings (λ k v. k.actor ≡ a → v ≡ half_of k.half values) (brought_by m)) ms
+Agrees values a ms = AllByRecursion (λ m. Brings (λ k v. k.actor ≡ a → v ≡ half_of k.half values) (brought_by m)) ms
 
 abbrev pub Full : ℕ → List Message → Type 0
 Full a ms = (half : Half) → Any (λ m. BringsSlot (slot half a) (brought_by m)) ms

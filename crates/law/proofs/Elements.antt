@@ -1,6 +1,6 @@
 -- What holds of each element of a list, or of some; what an Option or a Result holds.
 use Rattle.std.proofs.Common.{◌≡◌, List, [], ◌∷◌, ◌++◌, map, Some, None, Ok, Err, Option, Result, sym, ap, subst, inl, inr}
-use Rattle.std.specs.List.{AllByRecursion as All}
+use Rattle.std.specs.List.{AllByRecursion}
 use Rattle.std.proofs.ByRecursion.{All-map, All-weaker}
 use Rattle.law.specs.Values.{Any}
 
@@ -28,19 +28,19 @@ err≢ok p = subst IsOk (sym p) tt
 -- each element
 
 -- weakened, what holds found by itself
-pub all_then : {A : Type 0} {P Q : A → Type 0} → ((a : A) → P a → Q a) → (xs : List A) → All P xs → All Q xs
+pub all_then : {A : Type 0} {P Q : A → Type 0} → ((a : A) → P a → Q a) → (xs : List A) → AllByRecursion P xs → AllByRecursion Q xs
 all_then {A} {P} {Q} f xs p = All-weaker P Q f xs p
 
-pub all_mapped : {A B : Type 0} (f : A → B) {P : A → Type 0} (Q : B → Type 0) → ((a : A) → P a → Q (f a)) → (xs : List A) → All P xs → All Q (map f xs)
+pub all_mapped : {A B : Type 0} (f : A → B) {P : A → Type 0} (Q : B → Type 0) → ((a : A) → P a → Q (f a)) → (xs : List A) → AllByRecursion P xs → AllByRecursion Q (map f xs)
 all_mapped f {P} Q h xs p = All-map Q f xs (All-weaker P (λ a. Q (f a)) h xs p)
 
-pub all_front : {A : Type 0} (P : A → Type 0) (xs ys : List A) → All P (xs ++ ys) → All P xs
+pub all_front : {A : Type 0} (P : A → Type 0) (xs ys : List A) → AllByRecursion P (xs ++ ys) → AllByRecursion P xs
 all_front P [] ys p = tt
 all_front P (x ∷ xs) ys p = (p.0, all_front P xs ys p.1)
 
 -- some element
 
-pub all_any : {A : Type 0} {P Q : A → Type 0} (xs : List A) → All P xs → Any Q xs → (a : A) × P a × Q a
+pub all_any : {A : Type 0} {P Q : A → Type 0} (xs : List A) → AllByRecursion P xs → Any Q xs → (a : A) × P a × Q a
 all_any [] p q = absurd q
 all_any (x ∷ xs) p (inl q) = (x, p.0, q)
 all_any (x ∷ xs) p (inr q) = all_any xs p.1 q

@@ -1,6 +1,6 @@
 -- The line to a switch: packets in flight have rising indices, and their numbers repeat only after 65,535 packets.
 use Rattle.std.proofs.Common.{◌≡◌, ℕ, suc, ◌+◌, ◌%◌, ◌^◌, ◌<◌, ◌≤◌, eqb, List, [], ◌∷◌, ◌++◌, refl, arith}
-use Rattle.std.specs.List.{AllByRecursion as All}
+use Rattle.std.specs.List.{AllByRecursion}
 use Rattle.std.proofs.lemmas.Bool.{cond_both, eqb-false, eqb-true}
 use Rattle.model.specs.Composing.{number_after}
 use Rattle.law.specs.World.{Packet}
@@ -29,7 +29,7 @@ pub between_le : (n : ℕ) (ps : List Packet) (c : ℕ) → Between n ps c → n
 between_le n [] c b = b
 between_le n (p ∷ ps) c b = let ih = between_le (suc p.index) ps c b.2 in let h = b.0 in omega arith
 
-pub between_below : (n : ℕ) (ps : List Packet) (c : ℕ) → Between n ps c → All (λ p. p.index < c) ps
+pub between_below : (n : ℕ) (ps : List Packet) (c : ℕ) → Between n ps c → AllByRecursion (λ p. p.index < c) ps
 between_below n [] c b = tt
 between_below n (p ∷ ps) c b = (between_le (suc p.index) ps c b.2, between_below (suc p.index) ps c b.2)
 
@@ -47,7 +47,7 @@ between_last n [] p c b = b.0
 between_last n (x ∷ xs) p c b = (b.0, b.1, between_last (suc x.index) xs p c b.2)
 
 -- once the latest packet is delivered, nothing is in flight
-pub nothing_ahead : (n c : ℕ) (ds ps : List Packet) → All (Behind n) ds → Between n ps (suc c) → Delivered c ds → ps ≡ []
+pub nothing_ahead : (n c : ℕ) (ds ps : List Packet) → AllByRecursion (Behind n) ds → Between n ps (suc c) → Delivered c ds → ps ≡ []
 nothing_ahead n c ds [] h b d = refl
 nothing_ahead n c ds (p ∷ ps) h b d =
     let s = all_any ds h d in
@@ -57,5 +57,5 @@ nothing_ahead n c ds (p ∷ ps) h b d =
     let k : s.0.index ≡ c = s.2 in
     absurd (omega arith)
 
-pub delivered_below : (n k : ℕ) (ds : List Packet) → All (Behind n) ds → Delivered k ds → k < n
+pub delivered_below : (n k : ℕ) (ds : List Packet) → AllByRecursion (Behind n) ds → Delivered k ds → k < n
 delivered_below n k ds h d = let s = all_any ds h d in let j : s.0.index < n = s.1.0 in let e : s.0.index ≡ k = s.2 in omega arith

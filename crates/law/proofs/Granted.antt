@@ -1,7 +1,7 @@
 -- What a granted call did, and that a refused one did nothing.
 use Rattle.std.proofs.Common.{◌≡◌, ℕ, ◌+◌, ◌≤◌, Bool, true, false, cond, not, eqb, ltb, List, [], ◌∷◌, ◌++◌, length, take, drop, ℤ, is_some, is_ok, Some, None, Ok, Err, Option, Result, sym, refl, ap, ◌∙◌, ap₂, arith}
 use Rattle.std.specs.Option.{option_map}
-use Rattle.std.specs.List.{AllByRecursion as All}
+use Rattle.std.specs.List.{AllByRecursion}
 use Rattle.std.proofs.lemmas.List.{take_at}
 use Rattle.std.proofs.lemmas.Bool.{eq-eqb, eqb-false, ltb-false, or_parts}
 use Rattle.fault.specs.declared.CallFault.TheVariants.{NoSlip, NothingOutstanding, ShortBuffer, SlipOpen}
@@ -36,7 +36,7 @@ is_known : (b : Bool) (f : Fault) (o : Option Fault) → cond b o (Some f) ≡ N
 is_known true f o e = (refl, e)
 is_known false f o e = absurd (none≢some (sym e))
 
-entries : (st : Known) (before : List ℕ) (i : ℕ) (list : List ℕ) → entry_fault st before i list ≡ None → All (Entry st) list
+entries : (st : Known) (before : List ℕ) (i : ℕ) (list : List ℕ) → entry_fault st before i list ≡ None → AllByRecursion (Entry st) list
 entries st before i [] e = tt
 entries st before i (a ∷ rest) e =
     let p = no_fault _ _ _ e in
@@ -49,7 +49,7 @@ unless_granted None x e = (refl, same_answer _ _ e)
 unless_granted (Some f) x e = absurd (err≢ok e)
 
 pub enrol_is : (h : HubModel) (id : ℕ) (list : List ℕ) (g : HubModel) → enrol h id list ≡ Ok (tt, g)
-    → (g ≡ with_switches (h.switches ++ new_switch id list ∷ []) h) × (length list ≤ 64) × All (Entry h.store) list
+    → (g ≡ with_switches (h.switches ++ new_switch id list ∷ []) h) × (length list ≤ 64) × AllByRecursion (Entry h.store) list
 enrol_is h id list g e =
     let u = unless_granted (enrol_fault h id list) _ e in
     let none = u.0 in

@@ -1,7 +1,7 @@
 -- What the messages of an accepted event do to the switches, the store and the accepted values.
 use Rattle.std.proofs.Common.{◌≡◌, ℕ, Bool, true, false, cond, not, eqb, ◌⊎◌, List, [], ◌∷◌, map, ℤ, is_some, Some, None, Ok, Err, Option, Result, sym, refl, ap, ◌∙◌, subst, ap₂, inl, inr, ⊎_elim}
 use Rattle.std.specs.Option.{option_map}
-use Rattle.std.specs.List.{AllByRecursion as All}
+use Rattle.std.specs.List.{AllByRecursion}
 use Rattle.std.proofs.lemmas.Bool.{and_parts, cond_both, eq-eqb, true≢false}
 use Rattle.fault.specs.declared.Fault.{Fault}
 use Rattle.packet.specs.declared.records.Message.{Message}
@@ -106,7 +106,7 @@ Hits a m = Edits a m ⊎ Inits m
 -- actor a is due wherever the switch lists it
 abbrev pub DueAt : ℕ → Option SwitchModel → Type 0
 DueAt a None = Unit {0}
-DueAt a (Some m) = All (λ x. x.actor ≡ a → x.mark ≡ Due) m.items
+DueAt a (Some m) = AllByRecursion (λ x. x.actor ≡ a → x.mark ≡ Due) m.items
 
 due_touched : (a b : ℕ) (o : Option SwitchModel) → DueAt a o → DueAt a (option_map (touched b) o)
 due_touched a b None d = tt
@@ -117,14 +117,14 @@ touched_due : (a : ℕ) (o : Option SwitchModel) → DueAt a (option_map (touche
 touched_due a None = tt
 touched_due a (Some m) = go m.items
   where
-    go : (xs : List Item) → All (λ x. x.actor ≡ a → x.mark ≡ Due) (map (touched_item a) xs)
+    go : (xs : List Item) → AllByRecursion (λ x. x.actor ≡ a → x.mark ≡ Due) (map (touched_item a) xs)
     go [] = tt
     go (x ∷ xs) = (
       cond_both (eqb x.actor a) (moved_item Changed x) x (λ y. y.actor ≡ a → y.mark ≡ Due) (λ _ e. refl) (λ q e. absurd (true≢false (sym (eq-eqb x.actor a e) ∙ q))),
       go xs,
     )
 
-all_due : (a : ℕ) (xs : List Item) → All (λ x. x.actor ≡ a → x.mark ≡ Due) (map (moved_item Changed) xs)
+all_due : (a : ℕ) (xs : List Item) → AllByRecursion (λ x. x.actor ≡ a → x.mark ≡ Due) (map (moved_item Changed) xs)
 all_due a [] = tt
 all_due a (x ∷ xs) = (λ e. refl, all_due a xs)
 

@@ -1,6 +1,6 @@
 -- What holds in every world that a run comes to.
 use Rattle.std.proofs.Common.{◌≡◌, ℕ, suc, ◌%◌, ◌^◌, ◌<◌, ◌≤◌, true, ◌⊎◌, List, [], ◌∷◌, ◌++◌, length, ℤ, is_some, Some, None, Option}
-use Rattle.std.specs.List.{AllByRecursion as All}
+use Rattle.std.specs.List.{AllByRecursion}
 use Rattle.packet.specs.declared.records.Message.{Message}
 use Rattle.packet.specs.declared.words.Descriptor.{Descriptor}
 use Rattle.store.specs.declared.meaning.Half.{Half}
@@ -66,10 +66,10 @@ PayloadFine n ps p = (p.acts_before ≤ n) × AboutFine n ps (spoken p.bytes) p.
 
 pub record Lines (e : End) : Type 0 where
   pub passed : ℕ
-  pub behind : All (Behind passed) e.line_to.delivered
+  pub behind : AllByRecursion (Behind passed) e.line_to.delivered
   pub ahead : Between passed (flight e.line_to) e.line_to.composed
-  pub coming : All (PayloadFine e.display.acts e.line_to.delivered) e.line_from
-  pub taken : All (PayloadFine e.display.acts e.line_to.delivered) e.taken
+  pub coming : AllByRecursion (PayloadFine e.display.acts e.line_to.delivered) e.line_from
+  pub taken : AllByRecursion (PayloadFine e.display.acts e.line_to.delivered) e.taken
 
 -- The items.
 
@@ -79,11 +79,11 @@ Good values a e = ((half : Half) → e.display.shown (slot half a) ≡ Some (hal
 
 -- Settled: no packet in flight brings it. Under way: the packet composed last brings these values, and once it is delivered they are shown.
 abbrev pub MarkFine : ℤ × ℤ → ℕ → End → Mark → Type 0
-MarkFine values a e Settled = Good values a e × All (λ p. Silent a (said_by p)) (flight e.line_to)
+MarkFine values a e Settled = Good values a e × AllByRecursion (λ p. Silent a (said_by p)) (flight e.line_to)
 MarkFine values a e Due = Unit {0}
 MarkFine values a e UnderWay =
     (c : ℕ) × (e.line_to.composed ≡ suc c)
-    × All (λ p. p.index ≡ c → Agrees values a (said_by p) × Full a (said_by p)) (flight e.line_to)
+    × AllByRecursion (λ p. p.index ≡ c → Agrees values a (said_by p) × Full a (said_by p)) (flight e.line_to)
     × (Delivered c e.line_to.delivered → Good values a e)
 
 -- an item, where marks tells the mark of each actor
@@ -105,7 +105,7 @@ pub record SwitchFine (st : Known) (m : SwitchModel) (e : End) : Type 0 where
   pub short : length m.items ≤ 64
   pub numbers : NumbersFine m.numbers e.line_to
   pub marks : ℕ → Mark
-  pub items : All (ItemFine st marks e) m.items
+  pub items : AllByRecursion (ItemFine st marks e) m.items
 
 abbrev pub Enrolled : Known → Option SwitchModel → End → Type 0
 Enrolled st None e = e.line_to.composed ≡ 0

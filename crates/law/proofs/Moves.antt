@@ -1,7 +1,7 @@
 -- Every move keeps what holds of the world.
 use Rattle.std.proofs.Common.{◌≡◌, ℕ, suc, ◌^◌, ◌<◌, ◌≤◌, Bool, true, false, cond, eqb, List, [], ◌∷◌, map, length, take, ℤ, is_some, Some, None, Ok, Option, sym, refl, ap, ◌∙◌, subst, inl, le_refl, arith}
 use Rattle.std.specs.Option.{option_map}
-use Rattle.std.specs.List.{AllByRecursion as All}
+use Rattle.std.specs.List.{AllByRecursion}
 use Rattle.std.proofs.lemmas.List.{length-map}
 use Rattle.packet.specs.declared.records.Message.{Message}
 use Rattle.packet.specs.declared.words.Descriptor.{Descriptor}
@@ -40,14 +40,14 @@ use Rattle.law.proofs.Written.{packet_says, told}
 module _ (words : Site) where
   -- Enrolment.
 
-  new_items : (st : Known) (e : End) (list : List ℕ) → All (λ a. a < 2 ^ 16) list → All (Entry st) list → All (ItemFine st (λ a. Due) e) (map due_item list)
+  new_items : (st : Known) (e : End) (list : List ℕ) → AllByRecursion (λ a. a < 2 ^ 16) list → AllByRecursion (Entry st) list → AllByRecursion (ItemFine st (λ a. Due) e) (map due_item list)
   new_items st e [] f k = tt
   new_items st e (a ∷ rest) f k = (record { fits = (k.0.0, f.0); known = k.0.1; marked = refl; fine = tt }, new_items st e rest f.1 k.1)
 
   short_list : (list : List ℕ) → length list ≤ 64 → length (map due_item list) ≤ 64
   short_list list h = subst (λ (n : ℕ). n ≤ 64) (sym (length-map list due_item)) h
 
-  here_new : (st : Known) (id : ℕ) (list : List ℕ) (e : End) → id < 2 ^ 16 → All (λ a. a < 2 ^ 16) list → length list ≤ 64 → All (Entry st) list
+  here_new : (st : Known) (id : ℕ) (list : List ℕ) (e : End) → id < 2 ^ 16 → AllByRecursion (λ a. a < 2 ^ 16) list → length list ≤ 64 → AllByRecursion (Entry st) list
       → (b : Bool) (o : Option SwitchModel) → Here st o e → Here st (or_else o (cond b (Some (new_switch id list)) None)) e
   unfolding number_of
   here_new st id list e small f short k b (Some m) h = h
@@ -63,7 +63,7 @@ module _ (words : Site) where
     },
   )
 
-  keep_enrols : (w : World) (id : ℕ) (list : List ℕ) (g : HubModel) → id < 2 ^ 16 → All (λ a. a < 2 ^ 16) list → enrol w.hub id list ≡ Ok (tt, g) → Holds words w → Holds words (with_hub g w)
+  keep_enrols : (w : World) (id : ℕ) (list : List ℕ) (g : HubModel) → id < 2 ^ 16 → AllByRecursion (λ a. a < 2 ^ 16) list → enrol w.hub id list ≡ Ok (tt, g) → Holds words w → Holds words (with_hub g w)
   keep_enrols w id list g small f p i =
       let r = enrol_is w.hub id list g p in
       subst (λ h. Holds words (with_hub h w)) (sym r.0)

@@ -1,6 +1,6 @@
 -- A packet composed, sent or withheld, delivered or lost: what holds of its switch is kept.
 use Rattle.std.proofs.Common.{◌≡◌, ℕ, suc, true, List, [], ◌∷◌, ◌++◌, ℤ, Some, None, Option, sym, refl, ap, ◌∙◌, subst, inl, inr, ⊎_elim, append-nil, le_refl, arith}
-use Rattle.std.specs.List.{AllByRecursion as All}
+use Rattle.std.specs.List.{AllByRecursion}
 use Rattle.std.proofs.ByRecursion.{All-push}
 use Rattle.store.specs.Meaning.{Known}
 use Rattle.model.specs.declared.item.Item.{Item}
@@ -37,7 +37,7 @@ module _ (st : Known) (m : SwitchModel) (e : End) (p : Packet) (fresh : Fresh st
   before = between_front l.passed e.line_to.line e.line_to.waiting e.line_to.composed l.ahead
 
   -- an outstanding actor is under way in this packet
-  under_way : (x : Item) → All (λ y. y.actor ≡ x.actor → y.mark ≡ x.mark) m.items → lists_actor x.actor m.items ≡ true → is_outstanding x.mark ≡ true
+  under_way : (x : Item) → AllByRecursion (λ y. y.actor ≡ x.actor → y.mark ≡ x.mark) m.items → lists_actor x.actor m.items ≡ true → is_outstanding x.mark ≡ true
       → MarkFine (values_of (st x.actor)) x.actor e' UnderWay
   under_way x same listed o = (
     e.line_to.composed,
@@ -49,7 +49,7 @@ module _ (st : Known) (m : SwitchModel) (e : End) (p : Packet) (fresh : Fresh st
     λ d. let x = delivered_below l.passed e.line_to.composed e.line_to.delivered l.behind d in let y = between_le l.passed e.line_to.line e.line_to.composed before in absurd (omega arith),
   )
 
-  mark_composed : (x : Item) → All (λ y. y.actor ≡ x.actor → y.mark ≡ x.mark) m.items → lists_actor x.actor m.items ≡ true → (μ : Mark) → x.mark ≡ μ
+  mark_composed : (x : Item) → AllByRecursion (λ y. y.actor ≡ x.actor → y.mark ≡ x.mark) m.items → lists_actor x.actor m.items ≡ true → (μ : Mark) → x.mark ≡ μ
       → MarkFine (values_of (st x.actor)) x.actor e μ → MarkFine (values_of (st x.actor)) x.actor e' (moved μ Composed)
   mark_composed x same listed Settled q g = (
     g.0,
@@ -91,7 +91,7 @@ here_composed st m e p fresh h = (lines_composed st m e p fresh h.0 h.1, switch_
 abbrev re_line : List Packet → List Packet → End → End
 re_line xs ys e = with_line_to (record { line = xs; waiting = ys; composed = e.line_to.composed; delivered = e.line_to.delivered }) e
 
-mark_fewer : (values : ℤ × ℤ) (a : ℕ) (e : End) (xs ys : List Packet) → ((P : Packet → Type 0) → All P (flight e.line_to) → All P (xs ++ ys)) → (μ : Mark)
+mark_fewer : (values : ℤ × ℤ) (a : ℕ) (e : End) (xs ys : List Packet) → ((P : Packet → Type 0) → AllByRecursion P (flight e.line_to) → AllByRecursion P (xs ++ ys)) → (μ : Mark)
     → MarkFine values a e μ → MarkFine values a (re_line xs ys e) μ
 mark_fewer values a e xs ys t Settled g = (g.0, t _ g.1)
 mark_fewer values a e xs ys t Due g = tt
@@ -102,8 +102,8 @@ mark_back values a e Settled g = g
 mark_back values a e Due g = tt
 mark_back values a e UnderWay g = tt
 
-all_same : (P : Packet → Type 0) (xs : List Packet) → All P xs → All P (xs ++ [])
-all_same P xs p = subst (All P) (sym (append-nil xs)) p
+all_same : (P : Packet → Type 0) (xs : List Packet) → AllByRecursion P xs → AllByRecursion P (xs ++ [])
+all_same P xs p = subst (AllByRecursion P) (sym (append-nil xs)) p
 
 pub here_sent : (st : Known) (m : SwitchModel) (e : End) → Here st (Some m) e → Here st (Some (closed_slip m)) (with_line_to (joined e.line_to) e)
 here_sent st m e h =
@@ -180,7 +180,7 @@ here_lost st o e p rest q h =
         taken = l.taken;
       },
       switch_stays st o e (with_line_to (lost rest e.line_to) e) refl refl
-          (λ values a μ. mark_fewer values a e rest e.line_to.waiting (λ P x. (subst (λ y. All P (y ++ e.line_to.waiting)) q x).1) μ) h.1,
+          (λ values a μ. mark_fewer values a e rest e.line_to.waiting (λ P x. (subst (λ y. AllByRecursion P (y ++ e.line_to.waiting)) q x).1) μ) h.1,
     )
 
 -- Delivered.
@@ -196,14 +196,14 @@ payload_later n ps p x k = (k.0, go x.about k.1)
 mark_delivered : (e : End) (p : Packet) (rest : List Packet) → e.line_to.line ≡ p ∷ rest → Lines e → (values : ℤ × ℤ) (a : ℕ) (μ : Mark)
     → MarkFine values a e μ → MarkFine values a (delivers p rest e) μ
 mark_delivered e p rest q l values a Settled g =
-    let s = subst (λ y. All (λ r. Silent a (said_by r)) (y ++ e.line_to.waiting)) q g.1 in (
+    let s = subst (λ y. AllByRecursion (λ r. Silent a (said_by r)) (y ++ e.line_to.waiting)) q g.1 in (
       ⊎_elim (λ f. inl (λ half. show_silent a (said_by p) s.0 e.display.shown half ∙ f half))
           (λ x. inr (x.0, bring_silent a (said_by p) s.0 e.display.latest ∙ x.1, x.2)) g.0,
       s.1,
     )
 mark_delivered e p rest q l values a Due g = tt
 mark_delivered e p rest q l values a UnderWay g =
-    let s = subst (λ y. All (λ r. r.index ≡ g.0 → Agrees values a (said_by r) × Full a (said_by r)) (y ++ e.line_to.waiting)) q g.2 in (
+    let s = subst (λ y. AllByRecursion (λ r. r.index ≡ g.0 → Agrees values a (said_by r) × Full a (said_by r)) (y ++ e.line_to.waiting)) q g.2 in (
       g.0,
       g.1,
       s.1,

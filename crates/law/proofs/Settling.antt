@@ -1,7 +1,7 @@
 -- From a compose on, with no change, until its answer is taken: no item of the switch is due.
 use Rattle.std.proofs.Common.{◌≡◌, ℕ, suc, Bool, true, false, cond, eqb, ◌⊎◌, List, [], ◌∷◌, ◌++◌, map, take, ℤ, Some, None, Ok, Option, sym, refl, ap, ◌∙◌, subst, inl, inr, ⊎_elim, append-nil, arith}
 use Rattle.std.specs.Option.{option_map}
-use Rattle.std.specs.List.{AllByRecursion as All}
+use Rattle.std.specs.List.{AllByRecursion}
 use Rattle.std.proofs.lemmas.Bool.{eq-eqb, eqb-false, eqb-true, ne_eqb, or_from, true≢false}
 use Rattle.packet.specs.declared.records.Message.{Message}
 use Rattle.packet.specs.declared.words.Descriptor.{Descriptor}
@@ -39,12 +39,12 @@ use Rattle.law.proofs.Truth.{holds_at_opening}
 
 -- every item settled; none due
 abbrev Clear : SwitchModel → Type 0
-Clear m = All (λ x. x.mark ≡ Settled) m.items × (m.mark ≡ Settled)
+Clear m = AllByRecursion (λ x. x.mark ≡ Settled) m.items × (m.mark ≡ Settled)
 
 abbrev NoneDue : SwitchModel → Type 0
-NoneDue m = All (λ x. x.mark ≡ Due → ⊥) m.items × (m.mark ≡ Due → ⊥)
+NoneDue m = AllByRecursion (λ x. x.mark ≡ Due → ⊥) m.items × (m.mark ≡ Due → ⊥)
 
-none_outstanding : (items : List Item) → All (λ x. x.mark ≡ Settled) items → any_outstanding items ≡ false
+none_outstanding : (items : List Item) → AllByRecursion (λ x. x.mark ≡ Settled) items → any_outstanding items ≡ false
 none_outstanding [] p = refl
 none_outstanding (x ∷ xs) p = or_from (is_outstanding x.mark) (any_outstanding xs) (ap is_outstanding p.0) (none_outstanding xs p.1)
 
@@ -60,7 +60,7 @@ answered_clear m d = (all_mapped (moved_item Answered) (λ x. x.mark ≡ Settled
 composed_none_due : (m : SwitchModel) → NoneDue (composed m)
 composed_none_due m = (go m.items, not_due_composed m.mark)
   where
-    go : (xs : List Item) → All (λ x. x.mark ≡ Due → ⊥) (map (moved_item Composed) xs)
+    go : (xs : List Item) → AllByRecursion (λ x. x.mark ≡ Due → ⊥) (map (moved_item Composed) xs)
     go [] = tt
     go (x ∷ xs) = (not_due_composed x.mark, go xs)
 
@@ -72,7 +72,7 @@ module _ (k : ℕ) where
 
   -- it was withheld, and never comes
   abbrev Gone : End → Type 0
-  Gone e = All (λ p. p.index ≡ k → ⊥) (flight e.line_to) × (Delivered k e.line_to.delivered → ⊥)
+  Gone e = AllByRecursion (λ p. p.index ≡ k → ⊥) (flight e.line_to) × (Delivered k e.line_to.delivered → ⊥)
 
   abbrev Waits : Option SwitchModel → End → Type 0
   Waits None e = ⊥
@@ -82,11 +82,11 @@ module _ (k : ℕ) where
   waits_kept m n e p w = (w.0, f w.1)
     where
       none_due : NoneDue m → NoneDue n
-      none_due d = (subst (All (λ x. x.mark ≡ Due → ⊥)) (sym p.items) d.0, λ z. d.1 (sym p.mark ∙ z))
+      none_due d = (subst (AllByRecursion (λ x. x.mark ≡ Due → ⊥)) (sym p.items) d.0, λ z. d.1 (sym p.mark ∙ z))
 
       f : Gone e ⊎ (Clear m ⊎ Pending m) → Gone e ⊎ (Clear n ⊎ Pending n)
       f (inl g) = inl g
-      f (inr (inl c)) = inr (inl (subst (All (λ x. x.mark ≡ Settled)) (sym p.items) c.0, p.mark ∙ c.1))
+      f (inr (inl c)) = inr (inl (subst (AllByRecursion (λ x. x.mark ≡ Settled)) (sym p.items) c.0, p.mark ∙ c.1))
       f (inr (inr q)) = inr (inr (p.awaited ∙ q.0, none_due q.1))
 
   -- the switch that waits
@@ -134,14 +134,14 @@ module _ (k : ℕ) where
 
   gone_delivered : (e : End) (p : Packet) (rest : List Packet) → e.line_to.line ≡ p ∷ rest → Gone e → Gone (delivers p rest e)
   gone_delivered e p rest q g =
-      let a = subst (λ y. All (λ r. r.index ≡ k → ⊥) (y ++ e.line_to.waiting)) q g.0 in
+      let a = subst (λ y. AllByRecursion (λ r. r.index ≡ k → ⊥) (y ++ e.line_to.waiting)) q g.0 in
       (a.1, ⊎_elim a.0 g.1)
 
   gone_lost : (e : End) (p : Packet) (rest : List Packet) → e.line_to.line ≡ p ∷ rest → Gone e → Gone (with_line_to (lost rest e.line_to) e)
-  gone_lost e p rest q g = ((subst (λ y. All (λ r. r.index ≡ k → ⊥) (y ++ e.line_to.waiting)) q g.0).1, g.1)
+  gone_lost e p rest q g = ((subst (λ y. AllByRecursion (λ r. r.index ≡ k → ⊥) (y ++ e.line_to.waiting)) q g.0).1, g.1)
 
   gone_sent : (e : End) → Gone e → Gone (with_line_to (joined e.line_to) e)
-  gone_sent e g = (subst (All (λ p. p.index ≡ k → ⊥)) (sym (append-nil (flight e.line_to))) g.0, g.1)
+  gone_sent e g = (subst (AllByRecursion (λ p. p.index ≡ k → ⊥)) (sym (append-nil (flight e.line_to))) g.0, g.1)
 
   waits_sent : (m : SwitchModel) (e : End) → Waits (Some m) e → Waits (Some (closed_slip m)) (with_line_to (joined e.line_to) e)
   waits_sent m e x = waits_end (Some (closed_slip m)) e (with_line_to (joined e.line_to) e) refl (gone_sent e) (waits_kept m (closed_slip m) e (record { items = refl; mark = refl; awaited = refl }) x)
@@ -161,7 +161,7 @@ module _ (k : ℕ) where
           let p = r.0 in
           let i : p.index ≡ k = (let y = r.2 in let z = x.0 in omega arith) in
           let b = between_last l.passed e.line_to.line p e.line_to.composed (subst (λ y. Between l.passed (e.line_to.line ++ y) e.line_to.composed) r.1 l.ahead) in (
-            subst (All (λ q. q.index ≡ k → ⊥)) (sym (append-nil e.line_to.line))
+            subst (AllByRecursion (λ q. q.index ≡ k → ⊥)) (sym (append-nil e.line_to.line))
                 (all_then (λ q y z. omega arith) e.line_to.line (between_below l.passed e.line_to.line p.index b)),
             λ d. let y = delivered_below l.passed k e.line_to.delivered l.behind d in let z = between_le l.passed e.line_to.line p.index b in omega arith,
           )

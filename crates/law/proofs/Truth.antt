@@ -1,6 +1,6 @@
 -- Each listed actor is shown as last accepted or opened with, or reported outstanding, or excused.
 use Rattle.std.proofs.Common.{◌≡◌, ℕ, Bool, true, false, cond, ◌||◌, eqb, ◌⊎◌, List, [], ◌∷◌, Some, Ok, sym, refl, ap, ◌∙◌, subst, inl, inr, ⊎_elim, le_refl}
-use Rattle.std.specs.List.{AllByRecursion as All}
+use Rattle.std.specs.List.{AllByRecursion}
 use Rattle.std.proofs.lemmas.Bool.{eqb-true, true≢false}
 use Rattle.packet.specs.Words.{major}
 use Rattle.store.specs.declared.meaning.Half.TheVariants.{Actual, Target}
@@ -26,7 +26,7 @@ holds_at_opening site st l =
     record { site = refl; lawful = l; recalls = λ k. refl; each = λ s. (record { passed = 0; behind = tt; ahead = le_refl 0; coming = tt; taken = tt }, refl) }
 
 -- the mark that the hub tells of a listed actor, and what holds of it
-asked_mark : (st : store.Known) (marks : ℕ → Mark) (e : End) (a : ℕ) (items : List Item) → All (ItemFine st marks e) items → lists_actor a items ≡ true
+asked_mark : (st : store.Known) (marks : ℕ → Mark) (e : End) (a : ℕ) (items : List Item) → AllByRecursion (ItemFine st marks e) items → lists_actor a items ≡ true
     → (mark_of_actor a items ≡ Some (marks a)) × MarkFine (values_of (st a)) a e (marks a)
 asked_mark st marks e a [] f l = absurd (true≢false (sym l))
 asked_mark st marks e a (x ∷ xs) f l = go (eqb x.actor a) refl l (asked_mark st marks e a xs f.1)

@@ -1,6 +1,6 @@
 -- What a composed packet says: the store's values of the outstanding actors, and nothing of the settled ones; and its bytes say that.
 use Rattle.std.proofs.Common.{◌≡◌, ℕ, ◌+◌, ◌*◌, ◌^◌, ◌<◌, ◌≤◌, Bool, true, false, cond, eqb, List, [], ◌∷◌, ◌++◌, map, length, Some, sym, refl, ap, ◌∙◌, subst, inl, inr, ⊎_elim, arith}
-use Rattle.std.specs.List.{flat_map, AllByRecursion as All}
+use Rattle.std.specs.List.{flat_map, AllByRecursion}
 use Rattle.std.proofs.lemmas.Bool.{eqb-true, ne_eqb, not_from_false, or_cases, true≢false}
 use Rattle.packet.specs.declared.records.Message.{Message}
 use Rattle.packet.specs.declared.records.Message.TheVariants as message
@@ -42,7 +42,7 @@ module _ (st : Known) (a : ℕ) where
       go true ih = (λ e. ap (λ (n : ℕ). (values_of (st n)).0) e, (λ e. ap (λ (n : ℕ). (values_of (st n)).1) e, ih))
       go false ih = ih
 
-  items_silent : (items : List Item) (more : List Record) → All (λ x. x.actor ≡ a → is_outstanding x.mark ≡ false) items → Silent a (told more)
+  items_silent : (items : List Item) (more : List Record) → AllByRecursion (λ x. x.actor ≡ a → is_outstanding x.mark ≡ false) items → Silent a (told more)
       → Silent a (told (item_records st items ++ more))
   unfolding item_records
   items_silent [] more d h = h
@@ -53,7 +53,7 @@ module _ (st : Known) (a : ℕ) where
       go true o ih = let apart : (x.actor ≡ a → ⊥) = (λ e. true≢false (sym o ∙ d.0 e)) in (apart, (apart, ih))
       go false o ih = ih
 
-  items_full : (items : List Item) (more : List Record) → All (λ x. x.actor ≡ a → is_outstanding x.mark ≡ true) items → lists_actor a items ≡ true
+  items_full : (items : List Item) (more : List Record) → AllByRecursion (λ x. x.actor ≡ a → is_outstanding x.mark ≡ true) items → lists_actor a items ≡ true
       → Full a (told (item_records st items ++ more))
   unfolding item_records
   items_full [] more d l = absurd (true≢false (sym l))
@@ -81,10 +81,10 @@ module _ (st : Known) (a : ℕ) where
   pub writes_agree : (m : SwitchModel) → Agrees (values_of (st a)) a (told (records_for st m))
   writes_agree m = items_agree m.items _ (control_agrees (is_outstanding m.mark) m.control)
 
-  pub writes_silent : (m : SwitchModel) → All (λ x. x.actor ≡ a → is_outstanding x.mark ≡ false) m.items → Silent a (told (records_for st m))
+  pub writes_silent : (m : SwitchModel) → AllByRecursion (λ x. x.actor ≡ a → is_outstanding x.mark ≡ false) m.items → Silent a (told (records_for st m))
   writes_silent m d = items_silent m.items _ d (control_silent (is_outstanding m.mark) m.control)
 
-  pub writes_full : (m : SwitchModel) → All (λ x. x.actor ≡ a → is_outstanding x.mark ≡ true) m.items → lists_actor a m.items ≡ true → Full a (told (records_for st m))
+  pub writes_full : (m : SwitchModel) → AllByRecursion (λ x. x.actor ≡ a → is_outstanding x.mark ≡ true) m.items → lists_actor a m.items ≡ true → Full a (told (records_for st m))
   writes_full m d l = items_full m.items _ d l
 
 -- The bytes.
@@ -93,7 +93,7 @@ module _ (st : Known) (a : ℕ) where
 abbrev pub ActorFits : Item → Type 0
 ActorFits x = (x.actor ≡ 0 → ⊥) × (x.actor < 2 ^ 16)
 
-items_written : (st : Known) → Lawful st → (items : List Item) (more : List Record) → All ActorFits items → Written more → Written (item_records st items ++ more)
+items_written : (st : Known) → Lawful st → (items : List Item) (more : List Record) → AllByRecursion ActorFits items → Written more → Written (item_records st items ++ more)
 unfolding item_records
 items_written st l [] more f w = w
 items_written st l (x ∷ xs) more f w = go (is_outstanding x.mark) (items_written st l xs more f.1 w)
@@ -128,7 +128,7 @@ laid_bare place [] = refl
 laid_bare place (r ∷ rs) = ap (λ (l : List Message). message.Known (masked r) ∷ l) (laid_bare (place + length_of r) rs)
 
 -- the packet for a switch, read, is its words and the records of what is outstanding
-pub packet_says : (h : HubModel) (m : SwitchModel) → WordsFit (words_for h m) → major h.site.version ≡ 2 → Lawful h.store → All ActorFits m.items → length m.items ≤ 64
+pub packet_says : (h : HubModel) (m : SwitchModel) → WordsFit (words_for h m) → major h.site.version ≡ 2 → Lawful h.store → AllByRecursion ActorFits m.items → length m.items ≤ 64
     → spoken (packet_for h m) ≡ Some (words_for h m, told (records_for h.store m))
 packet_says h m fit version l f short =
     let rs : List Record = records_for h.store m in

@@ -1,6 +1,6 @@
 -- One hub, its switches and the lines between them: everything that can happen, one move at a time.
 use Rattle.std.specs.Prelude.{◌≡◌, ℕ, suc, ◌+◌, ◌^◌, ◌<◌, true, cond, List, [], ◌∷◌, ◌++◌, length, take, ℤ, Some, None, Ok, Err, Option, ◌==◌, ◌≢◌}
-use Rattle.std.specs.List.{AllByRecursion as All}
+use Rattle.std.specs.List.{AllByRecursion}
 use Rattle.fault.specs.declared.Fault.{Fault}
 use Rattle.packet.specs.declared.records.Message.{Message}
 use Rattle.packet.specs.declared.records.Message.TheVariants.{Known}
@@ -192,7 +192,7 @@ Refused h (withholding id number) = (e : Fault) × (withheld h id number ≡ Err
 
 pub data Move (w : World) : World → Type 0 where
   -- Calls that are granted. SwitchIDs and ActorIDs are words of 16 bits.
-  enrols : (id : ℕ) (list : List ℕ) (g : HubModel) → id < 2 ^ 16 → All (λ a. a < 2 ^ 16) list → enrol w.hub id list ≡ Ok (tt, g) → Move w (with_hub g w)
+  enrols : (id : ℕ) (list : List ℕ) (g : HubModel) → id < 2 ^ 16 → AllByRecursion (λ a. a < 2 ^ 16) list → enrol w.hub id list ≡ Ok (tt, g) → Move w (with_hub g w)
   sets : (half : Half) (a : ℕ) (v : ℤ) (g : HubModel) → set_value w.hub a half v ≡ Ok (tt, g) → Move w (with_past ((slot half a, v) ∷ w.past) (with_hub g w))
   sets_control : (id word : ℕ) (g : HubModel) → set_control w.hub id word ≡ Ok (tt, g) → Move w (with_hub g w)
   -- What take accepts under a SwitchID is the head of that switch's line: an event if its PackageID is 0, else an answer, whatever take tells of it.
