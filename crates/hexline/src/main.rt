@@ -65,14 +65,10 @@ fn show_lines<S: ActorStore>(rt: &impl Print, hub: &mut Hub<S>, text: &[u8]) -> 
 
 // Shows a packet as upper-case digits on a line of its own.
 fn show_packet(rt: &impl Print, packet: &[u8]) -> io::Result<()> {
-    let mut digits = [0; 2 * PAYLOAD_MOST];
-    match hexadecimal::encode(packet, &mut digits) {
-        Ok(count) => {
-            rt.write_all(&digits[0..count])?;
-            rt.println("")
-        }
-        Err(fault) => show_refusal(rt, fault),
+    for byte in packet {
+        print!(rt; "{byte:02X}")?;
     }
+    println!(rt; "")
 }
 
 // Hands in a slip that the hub is known to have open.

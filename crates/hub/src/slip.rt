@@ -2,20 +2,10 @@
 ghost use Rattle.std.specs.Prelude.{◌≡◌};
 
 // Plain numbers, but not to be let go: it is handed in as sent or withheld, on the hub that issued it.
+// It is not `Drop`, so no program that lets one go is a program, and none can be leaked.
 pub struct Slip {
     pub(crate) switch: u16,
     pub(crate) number: u16,
-}
-
-impl Drop for Slip {
-    fn drop(self)
-        requires { ⊥ }
-    {
-        let Slip {
-            switch: _,
-            number: _,
-        } = self;
-    }
 }
 
 impl Slip {
