@@ -126,7 +126,6 @@ def turn_crate(path, text):
     text = text.replace(f"Rattle.{OLD_CRATE}.", f"Rattle.{NEW_CRATE}.")
     if path.endswith(".rt"):
         text = re.sub(rf"(?<![\w.]){OLD_CRATE}::", f"{NEW_CRATE}::", text)
-        text = re.sub(rf"\buse {OLD_CRATE};", f"use {NEW_CRATE};", text)
     if path.endswith("crates.txt"):
         text = re.sub(rf"\b{OLD_CRATE}\b", NEW_CRATE, text)
     return text
@@ -191,7 +190,7 @@ def main(argv):
     return 0
 
 
-# Names that would be spelled badly or as their function's, each with the name that it gets.
+# Names that would be spelled badly or as their function's, or that patterns alone bind, each with the name that it gets.
 KEPT = {
     "after-put": "after_put_lem",
     "takesVersion02FF": "takes_version_02ff",

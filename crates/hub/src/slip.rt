@@ -2,7 +2,7 @@
 ghost use Rattle.std.specs.Prelude.{◌≡◌};
 
 // Plain numbers, but not to be let go: it is handed in as sent or withheld, on the hub that issued it.
-// It is not `Drop`, so no program that lets one go is a program, and none can be leaked.
+// It is not `Drop`, so safe code that lets one go, or leaks it, does not compile.
 pub struct Slip {
     pub(crate) switch: u16,
     pub(crate) number: u16,
