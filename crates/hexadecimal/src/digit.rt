@@ -1,18 +1,9 @@
 // One hexadecimal digit, and the half byte that it stands for.
 ghost use Rattle.std.specs.Prelude.{◌≡◌, ◌+◌, ◌*◌, ◌/◌, ◌%◌, ◌<◌};
-ghost use Rattle.hexadecimal.specs.Digit.{is_digit, value_of, digit_for};
+ghost use Rattle.hexadecimal.specs.Digit.{value_of, digit_for};
 
 // The digits that are written, in the order of what they stand for.
 const CAPITALS: [u8; 16] = *b"0123456789ABCDEF";
-
-pub(crate) fn is_digit(c: u8) -> bool
-    ensures { result ≡ is_digit c }
-{
-    match c {
-        b'0'..=b'9' | b'A'..=b'F' | b'a'..=b'f' => true,
-        _ => false,
-    }
-}
 
 fn value(c: u8) -> u8
     ensures answer { result ≡ value_of c }

@@ -2,7 +2,7 @@
 ghost use Rattle.std.specs.Prelude.{◌≡◌, ◌*◌, ◌≤◌, length, IfOk};
 ghost use Rattle.hexadecimal.specs.Decoding.{digits_ahead, bytes_of, decode_tells, decode_leaves, Faithful};
 
-use crate::digit::{is_digit, joined};
+use crate::digit::joined;
 use fault::{CallFault, Fault};
 
 // Two digits for each byte of the longest payload.
@@ -12,12 +12,9 @@ const LONGEST: usize = 2944;
 fn digits_ahead(line: &[u8]) -> usize
     ensures { result ≡ digits_ahead line.now }
 {
-    for (i, c) in line.iter().enumerate() {
-        if !is_digit(*c) {
-            return i;
-        }
-    }
-    line.len()
+    line.iter()
+        .position(|c| !c.is_ascii_hexdigit())
+        .unwrap_or(line.len())
 }
 
 // How many bytes the line spells, if it may be read into that room.

@@ -7,15 +7,15 @@ use Rattle.hexadecimal.proofs.lines.cut.Goals as goal
 pub returns-then-end-text : goal.returns-then-end-text
 returns-then-end-text c =
     let s = c.args.text.now in
-    let r = c.line_length-end.result in
-    let e : r ≡ line_length s = c.line_length-end.ensures.answer in
+    let r = c.length_to-end.result in
+    let e : r ≡ line_length s = c.length_to-end.ensures.answer in
     let tail : take (length s - (r + 1)) (drop (r + 1) s) ≡ drop (r + 1) s = take_rest s (r + 1) in
     record { line = ap (λ n. take n s) e; rest = tail ∙ ap (λ (n : ℕ). drop (n + 1) s) e; first = rw tail (first_at s r e); shorter = rw tail (shorter_since s (take r s) (drop (r + 1) s) c.requires (first_at s r e)) }
 
 pub returns-else-end-text : goal.returns-else-end-text
 returns-else-end-text c =
     let s = c.args.text.now in
-    let e = c.line_length-end.ensures.answer in
+    let e = c.length_to-end.ensures.answer in
     let long : length s ≤ line_length s = omega arith in
     let past : length s ≤ line_length s + 1 = omega arith in
     let line = take_all (line_length s) s long in
