@@ -8,4 +8,4 @@ mod writing;
 
 pub use lines::{Lines, length_to, next_line};
 pub use reading::decode;
-pub use writing::encode;
+pub use writing::{Digits, encode};
