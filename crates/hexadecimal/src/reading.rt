@@ -44,8 +44,10 @@ fn fill(line: &[u8], out: &mut [u8])
     requires { length line.now ≡ 2 * length out.old }
     ensures { out.new ≡ bytes_of line.now }
 {
+    let (pairs, _) = line.as_chunks::<2>();
     for (i, byte) in out.iter_mut().enumerate() {
-        *byte = joined(line[2 * i], line[2 * i + 1]);
+        let [high, low] = pairs[i];
+        *byte = joined(high, low);
     }
 }
 
