@@ -5,6 +5,8 @@ ghost use Rattle.hexadecimal.specs.Digit.{value_of, digit_for};
 // The digits that are written, in the order of what they stand for.
 const CAPITALS: [u8; 16] = *b"0123456789ABCDEF";
 
+// What a digit stands for, and 0 of any other byte. The library's `to_digit` would have to go by way of a
+// `char`, an `Option` and a `u32`.
 fn value(c: u8) -> u8
     ensures answer { result ≡ value_of c }
     ensures half { result < 16 }
@@ -29,7 +31,7 @@ fn capital(half: u8) -> u8
     requires { half < 16 }
     ensures { result ≡ digit_for half }
 {
-    CAPITALS[half as usize]
+    CAPITALS[usize::from(half)]
 }
 
 // The two digits that spell a byte.

@@ -14,10 +14,9 @@ fn spell(bytes: &[u8], out: &mut [u8])
     ensures spelt { Spells (take (2 * length bytes.now) out.new) bytes.now }
     ensures back { ReadsBack (take (2 * length bytes.now) out.new) bytes.now }
 {
+    // By places: once the loop is over, no proof knows what was written through `chunks_exact_mut`.
     for (i, byte) in bytes.iter().enumerate() {
-        let (high, low) = parted(*byte);
-        out[2 * i] = high;
-        out[2 * i + 1] = low;
+        (out[2 * i], out[2 * i + 1]) = parted(*byte);
     }
 }
 
