@@ -42,3 +42,7 @@ begun_with b (line ∷ lines) = (b ∷ line) ∷ lines
 unfoldable pub lines_of : List ℕ → List (List ℕ)
 lines_of [] = []
 lines_of (b ∷ text) = cond (b == line_feed) ([] ∷ lines_of text) (begun_with b (lines_of text))
+
+-- So the lines of a text are its first line and the lines of the rest.
+abbrev pub LineByLine : List ℕ → Type 0
+LineByLine text = 0 < length text → lines_of text ≡ line_of text ∷ lines_of (rest_of text)

@@ -1,7 +1,7 @@
 // A text taken apart line by line.
 ghost use Rattle.std.specs.Prelude.{◌≡◌, ℕ, ◌<◌, ◌≤◌, List, length, MatchOption};
 ghost use Rattle.std.specs.Iterator.{YieldsFirstRef, at_most};
-ghost use Rattle.hexadecimal.specs.Lines.{length_to, line_of, rest_of, lines_of, FirstLine, Shorter};
+ghost use Rattle.hexadecimal.specs.Lines.{length_to, line_of, rest_of, lines_of, FirstLine, LineByLine, Shorter};
 
 use std::marker::Model;
 
@@ -60,8 +60,10 @@ impl<'a> Model for Lines<'a> {
 }
 
 impl<'a> Lines<'a> {
+    #[tactic(auto, using(crate::proofs::Fronts::lines_step))]
     pub fn new(text: &'a [u8]) -> Lines<'a>
-        ensures { result ≡ text.now }
+        ensures text { result ≡ text.now }
+        ensures lines { LineByLine text.now }
     {
         Lines { left: text }
     }
