@@ -2,7 +2,7 @@
 use Rattle.std.proofs.Common.{◌≡◌, ℕ, zero, suc, ◌+◌, ◌<◌, ◌≤◌, Bool, true, false, Option, cond, not, eqb, ◌==◌, ◌⊎◌, List, [], ◌∷◌, ◌++◌, length, take, drop, sym, refl, ap, ◌∙◌, inl, inr, add-one, arith}
 use Rattle.std.specs.List.{position, position_or_len}
 use Rattle.std.specs.Option.{unwrap_or}
-use Rattle.std.proofs.lemmas.List.{length-append}
+use Rattle.std.proofs.lemmas.List.{drop_all, length-append, take_all}
 use Rattle.std.proofs.lemmas.List.Recursion.{is_position_or_len}
 use Rattle.std.proofs.lemmas.List.Sums.{prefix_len-le-length}
 use Rattle.std.proofs.lemmas.Bool.Decides.{nat_tests}
@@ -45,6 +45,10 @@ first_line (b ∷ s) = first_by b s (line_length s) (first_line s) (eqb b line_f
 pub first_at : (s : List ℕ) (n : ℕ) → n ≡ line_length s → FirstLine s (take n s) (drop (n + 1) s)
 first_at s n e =
     let d : n + 1 ≡ suc (line_length s) = omega arith in rw (d, e) (first_line s)
+
+-- a text without a line feed is one line
+pub one_line : (s : List ℕ) (n : ℕ) → n ≡ line_length s → length s ≤ n → FirstLine s s []
+one_line s n e long = let past : length s ≤ n + 1 = omega arith in rw take_all at (rw drop_all at (first_at s n e))
 
 sizes : (s line rest : List ℕ) → (s ≡ line ++ line_feed ∷ rest) ⊎ ((s ≡ line) × (rest ≡ [])) → (length line + 1 + length rest ≡ length s) ⊎ ((length line ≡ length s) × (length rest ≡ 0))
 sizes s line rest (inl e) = let n = ap length e ∙ length-append line (line_feed ∷ rest) in inl (omega arith)

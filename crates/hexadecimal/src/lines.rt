@@ -18,6 +18,7 @@ pub fn length_to(text: &[u8], separator: u8) -> usize
 }
 
 // The first line of a text that has one, and what follows its line feed.
+#[tactic(auto, using(crate::proofs::Fronts::first_at, crate::proofs::Fronts::shorter_since))]
 fn cut(text: &[u8]) -> (&[u8], &[u8])
     requires { 0 < length text.now }
     ensures line { result.0.now ≡ line_of text.now }

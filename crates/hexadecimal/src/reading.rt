@@ -53,6 +53,7 @@ fn fill(line: &[u8], out: &mut [u8])
 
 // Reads a line of digits of either case into the buffer, and tells how many bytes it spells. A refusal leaves
 // the buffer as it was.
+#[tactic(auto, using(crate::proofs::Spelling::decode_faithful))]
 pub fn decode(line: &[u8], out: &mut [u8]) -> Result<usize, Fault>
     ensures answer { result ≡ decode_tells line.now (length out.old) }
     ensures buffer { out.new ≡ decode_leaves line.now out.old }
