@@ -1,8 +1,8 @@
 -- A block's frame and its actors' values, one by one.
-use Rattle.std.specs.Prelude.{◌≡◌, ℕ, zero, suc, ◌+◌, ◌-◌, ◌*◌, ◌≤◌, Bool, true, false, ◌&&◌, List, ◌++◌, length, take, Some, ◌==◌, nat_le, refl, ◌<◌}
-use Rattle.std.proofs.Common.{sym, ap, ◌∙◌, ⊎_elim, arith}
+use Rattle.std.specs.Prelude.{◌≡◌, ℕ, zero, suc, ◌+◌, ◌*◌, ◌≤◌, Bool, true, false, ◌&&◌, List, ◌++◌, length, take, Some, ◌==◌, nat_le, refl, ◌<◌}
+use Rattle.std.proofs.Common.{sym, ap, ◌∙◌, MatchBool, arith}
 use Rattle.std.proofs.lemmas.List.{get_or_append_left, get_or-take, take_at}
-use Rattle.std.proofs.lemmas.Bool.{and_parts, and_from, leb-true, eqb-true, cases_order, true≢false}
+use Rattle.std.proofs.lemmas.Bool.{and_parts, and_from, leb-true, eqb-true, true≢false}
 use Rattle.store.specs.Meaning.{lawful_pair}
 use Rattle.store.specs.declared.meaning.Half.TheVariants.{Target}
 use Rattle.image.specs.Layout.{word_at, page_count, right_frame, right_count, right_length, length_of, place_of, pair_at, lawful_values, lawful_frame, block_in}
@@ -37,18 +37,14 @@ all_lawful bytes zero h = refl
 all_lawful bytes (suc n) h =
     and_from (lawful_pair (Some (pair_at bytes (suc n)))) (lawful_values bytes n) (h (suc n) (omega arith) (omega arith)) (all_lawful bytes n (λ i o l. h i o (omega arith)))
 
--- one forbidden value spoils the block
-pub spoilt : (bytes : List ℕ) (n i : ℕ) → 1 ≤ i → i ≤ n → lawful_pair (Some (pair_at bytes i)) ≡ false → lawful_values bytes n ≡ false
-spoilt bytes n i o l f = go (lawful_values bytes n) refl
+-- no actor of 1 to n has a forbidden value, or one has
+pub told_of_each : (bytes : List ℕ) (n : ℕ) (r : Bool) → MatchBool r ((i : ℕ) → 1 ≤ i → i ≤ n → lawful_pair (Some (pair_at bytes i)) ≡ true) ((i : ℕ) × (1 ≤ i) × (i ≤ n) × (lawful_pair (Some (pair_at bytes i)) ≡ false)) → r ≡ lawful_values bytes n
+told_of_each bytes n true all = sym (all_lawful bytes n all)
+told_of_each bytes n false k = go (lawful_values bytes n) refl
   where
-    go : (b : Bool) → lawful_values bytes n ≡ b → b ≡ false
-    go true e = absurd (true≢false (sym (value_lawful bytes n i e o l) ∙ f))
+    go : (b : Bool) → lawful_values bytes n ≡ b → false ≡ b
+    go true e = absurd (true≢false (sym (value_lawful bytes n k.0 e k.1 k.2) ∙ k.3))
     go false e = refl
-
--- one more lawful actor
-pub lawful_more : (bytes : List ℕ) (i : ℕ) → 1 ≤ i → lawful_values bytes (i - 1) ≡ true → lawful_pair (Some (pair_at bytes i)) ≡ true → lawful_values bytes (i + 1 - 1) ≡ true
-lawful_more bytes i o h l =
-    all_lawful bytes (i + 1 - 1) (λ k p m. ⊎_elim (λ e. ap (λ j. lawful_pair (Some (pair_at bytes j))) e ∙ l) (λ w. ⊎_elim (λ q. value_lawful bytes (i - 1) k h p (omega arith)) (λ q. absurd (omega arith)) w) (cases_order k i))
 
 -- Page.Count stands in every block
 pub count_in : (room : List ℕ) → page_count (block_in room) ≡ page_count room

@@ -1,5 +1,5 @@
 -- Where a ControlBlock keeps the values of its actors, and which blocks are lawful.
-use Rattle.std.specs.Prelude.{ℕ, zero, suc, ◌+◌, ◌-◌, ◌*◌, ◌/◌, ◌%◌, Bool, true, cond, ◌&&◌, List, length, take, ℤ, Some, None, Ok, Err, Result, ◌==◌, nat_le, slice_index, slice_set}
+use Rattle.std.specs.Prelude.{ℕ, zero, suc, ◌+◌, ◌-◌, ◌*◌, ◌/◌, ◌%◌, ◌<◌, ◌≤◌, Bool, true, cond, ◌&&◌, List, length, take, ℤ, Some, None, Ok, Err, Result, ◌==◌, nat_le, slice_index, slice_set}
 use Rattle.std.specs.Int.{w16}
 use Rattle.std.proofs.Common.{to_z, of_z}
 use Rattle.fault.specs.declared.Fault.{Fault}
@@ -35,6 +35,11 @@ field_of i = i - 1 - 4 * page_of i
 abbrev pub place_of : Half → ℕ → ℕ
 place_of Actual i = 132 + 28 * page_of i + 4 * field_of i
 place_of Target i = 132 + 28 * page_of i + 4 * field_of i + 2
+
+-- a slice that is long enough for both values of actor i
+pub record Holds (bytes : List ℕ) (i : ℕ) : Type 0 where
+  pub counted : 1 ≤ i
+  pub inside : place_of Target i + 1 < length bytes
 
 abbrev pub pair_at : List ℕ → ℕ → ℤ × ℤ
 pair_at bytes i = (signed_at bytes (place_of Actual i), signed_at bytes (place_of Target i))

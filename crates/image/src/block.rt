@@ -2,7 +2,7 @@
 ghost use Rattle.std.specs.Prelude.{◌≡◌, true, length};
 ghost use Rattle.image.specs.Layout.{lawful_block, block_in};
 
-// Room for the largest block; a smaller one stands at the front.
+// Fixed memory: room for the largest block, zeros from the start. The block stands at the front, and no length lies beside it: its own Page.Count tells it.
 #[derive(Drop)]
 pub(crate) struct Block {
     pub(crate) bytes: [u8; 576],

@@ -6,7 +6,7 @@ ghost use Rattle.image.specs.Layout.{actor_answer, actors_of, block_after, has_a
 ghost use Rattle.image.specs.LawfulValues.{lawful_actors};
 
 use crate::block::Image;
-use crate::layout::{place_of, read_pair, write_value};
+use crate::layout::{length_of, place_of, read_pair, write_value};
 use fault::{Fault, StoreFault};
 use store::meaning::{ActorStore, Half};
 use store::value::check_value;
@@ -39,22 +39,22 @@ impl Image {
         ensures is { result.now ≡ block_of self.now }
         ensures opens { image_over (block_of self.now) ≡ Ok (block_of self.now) }
     {
-        let length = 128 + 28 * self.page_count();
-        &self.block.bytes[0..length]
+        &self.block.bytes[..length_of(self.page_count())]
     }
 
-    fn page_count(&self) -> usize
+    fn page_count(&self) -> u8
         ensures is { result ≡ page_count self.now.block.bytes }
         ensures few { result ≤ 16 }
     {
-        self.block.bytes[25] as usize
+        self.block.bytes[25]
     }
 
     // Refuses an actor that the block does not have.
     fn check_actor(&self, actor: u16) -> Result<(), Fault>
         ensures { result ≡ actor_answer (block_of self.now) actor }
     {
-        if actor == 0 || actor as usize > 4 * self.page_count() {
+        let known = 1..=4 * self.page_count() as u16;
+        if !known.contains(&actor) {
             return Err(Fault::Store(StoreFault::UnknownActor, 0));
         }
         Ok(())
@@ -62,7 +62,8 @@ impl Image {
 
     // Writes one value of an actor of the block.
     fn write(&mut self, actor: u16, half: Half, value: i16)
-        requires { (has_actor (page_count (block_of self.old)) actor ≡ true) × (forbidden value ≡ false) }
+        requires known { has_actor (page_count (block_of self.old)) actor ≡ true }
+        requires lawful { forbidden value ≡ false }
         ensures bytes { block_of self.new ≡ written (block_of self.old) (place_of half actor) value }
         ensures after { actors_of (block_of self.new) ≡ after_put (actors_of (block_of self.old)) actor half value }
     {

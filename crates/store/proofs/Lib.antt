@@ -1,6 +1,5 @@
 pub mod Meanings
 pub mod Rising
-pub mod Shifts
 pub mod Entries
 pub mod Rows
 pub mod ListRules

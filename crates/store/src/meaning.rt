@@ -5,7 +5,7 @@ ghost use Rattle.store.specs.Meaning.{Known, lawful_pair, read_answer, put_answe
 use fault::Fault;
 
 // Which of an actor's two values is meant.
-#[derive(Clone, Copy)]
+#[derive(Clone, Copy, Debug, PartialEq, Eq)]
 pub enum Half {
     Actual,
     Target,

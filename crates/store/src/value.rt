@@ -12,7 +12,7 @@ const GREATEST: i16 = 32_766;
 pub fn is_forbidden(value: i16) -> bool
     ensures { result ≡ forbidden value }
 {
-    value < LEAST || value > GREATEST
+    !(LEAST..=GREATEST).contains(&value)
 }
 
 // Refuses a forbidden value.

@@ -14,11 +14,11 @@ invariant_of-self c =
     let h = c.args.half in
     let a = c.args.actor in
     let v = c.args.value in
-    let w = value_put room c.write_value.new.bytes h a v (c.write_value.ensures ∙ ap₂ (written room) c.place_of-at.ensures (to_z-of_z c.ranges.value)) c.requires.0 in
+    let w = value_put room c.write_value.new.bytes h a v (c.write_value.ensures ∙ ap₂ (written room) c.place_of-at.ensures (to_z-of_z c.ranges.value)) c.requires.known in
     let long = (framed (block_in room) (block_parts (block_in room) s.lawful).0).long in
     record {
       long = c.write_value.auto.bytes ∙ s.long;
-      lawful = ap lawful_block w ∙ lawful_after (block_in room) h a v c.ranges.value long c.requires.0 (not_from_false _ c.requires.1) s.lawful;
+      lawful = ap lawful_block w ∙ lawful_after (block_in room) h a v c.ranges.value long c.requires.known (not_from_false _ c.requires.lawful) s.lawful;
     }
 
 pub returns : goal.returns
@@ -29,10 +29,10 @@ returns c =
     let h = c.args.half in
     let a = c.args.actor in
     let v = c.args.value in
-    let w = value_put room c.write_value.new.bytes h a v (c.write_value.ensures ∙ ap₂ (written room) c.place_of-at.ensures (to_z-of_z c.ranges.value)) c.requires.0 in
+    let w = value_put room c.write_value.new.bytes h a v (c.write_value.ensures ∙ ap₂ (written room) c.place_of-at.ensures (to_z-of_z c.ranges.value)) c.requires.known in
     let long = (framed bs (block_parts bs s.lawful).0).long in
-    let e : actors_of bs a ≡ Some (pair_at bs a) = cond-true _ _ _ c.requires.0 in
+    let e : actors_of bs a ≡ Some (pair_at bs a) = cond-true _ _ _ c.requires.known in
     record {
       bytes = w;
-      after = ap actors_of w ∙ after_put_lem (actors_of bs) a h v (pair_at bs a) e c.requires.1 (actors_of (written bs (place_of h a) v)) (actors_after bs h a v c.ranges.value long c.requires.0);
+      after = ap actors_of w ∙ after_put_lem (actors_of bs) a h v (pair_at bs a) e c.requires.lawful (actors_of (written bs (place_of h a) v)) (actors_after bs h a v c.ranges.value long c.requires.known);
     }
