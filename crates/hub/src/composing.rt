@@ -41,7 +41,7 @@ fn packet_length(switch: &Switch) -> usize
 impl<S: ActorStore> Hub<S> {
     // The words at the head of a packet for a switch.
     fn words_for(&self, switch: &Switch) -> Descriptor
-        ensures { result ≡ words_for (hub_model S.ActorStore.meaning self.now) (switch_model switch.now) }
+        ensures { result ≡ words_for (hub_model S.meaning self.now) (switch_model switch.now) }
     {
         Descriptor {
             version: self.site.version,
@@ -55,8 +55,8 @@ impl<S: ActorStore> Hub<S> {
 
     // Writes the packet for a switch, if its slip is in, something is outstanding and the buffer has room.
     fn write_for(&self, id: u16, switch: &Switch, buf: &mut [u8]) -> Result<Composed, Fault>
-        ensures answer { result ≡ composition id (compose_for (hub_model S.ActorStore.meaning self.now) id buf.old (switch_model switch.now)) }
-        ensures bytes { buf.new ≡ packet_over (hub_model S.ActorStore.meaning self.now) (Some (switch_model switch.now)) buf.old (compose_for (hub_model S.ActorStore.meaning self.now) id buf.old (switch_model switch.now)) }
+        ensures answer { result ≡ composition id (compose_for (hub_model S.meaning self.now) id buf.old (switch_model switch.now)) }
+        ensures bytes { buf.new ≡ packet_over (hub_model S.meaning self.now) (Some (switch_model switch.now)) buf.old (compose_for (hub_model S.meaning self.now) id buf.old (switch_model switch.now)) }
     {
         let number = switch.numbers().next;
         if switch.numbers().slip.is_some() {
@@ -79,9 +79,9 @@ impl<S: ActorStore> Hub<S> {
 
     // Composes the packet with all that is outstanding for a switch. The slip is handed in once the packet was sent or withheld.
     pub fn compose(&mut self, id: u16, buf: &mut [u8]) -> Result<Composed, Fault>
-        ensures answer { result ≡ composition id (compose_step (hub_model S.ActorStore.meaning self.old) id buf.old) }
-        ensures after { hub_model S.ActorStore.meaning self.new ≡ hub_after (hub_model S.ActorStore.meaning self.old) (compose_step (hub_model S.ActorStore.meaning self.old) id buf.old) }
-        ensures bytes { buf.new ≡ composed_bytes (hub_model S.ActorStore.meaning self.old) id buf.old }
+        ensures answer { result ≡ composition id (compose_step (hub_model S.meaning self.old) id buf.old) }
+        ensures after { hub_model S.meaning self.new ≡ hub_after (hub_model S.meaning self.old) (compose_step (hub_model S.meaning self.old) id buf.old) }
+        ensures bytes { buf.new ≡ composed_bytes (hub_model S.meaning self.old) id buf.old }
     {
         let composed = match self.find(id) {
             Some(switch) => self.write_for(id, switch, buf)?,

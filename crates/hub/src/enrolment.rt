@@ -19,14 +19,14 @@ fn is_unfit(before: &[u16], actor: u16) -> bool
 }
 
 fn is_known<S: ActorStore>(store: &S, actor: u16) -> bool
-    ensures { result ≡ is_some (S.ActorStore.meaning store.now actor) }
+    ensures { result ≡ is_some (S.meaning store.now actor) }
 {
     store.read(actor).is_ok()
 }
 
 // Checks entry by entry that each stands there once and is known to the store.
 fn check_entries<S: ActorStore>(store: &S, actors: &[u16]) -> Result<(), Fault>
-    ensures answer { result ≡ unless (entry_fault (S.ActorStore.meaning store.now) [] 0 actors.now) tt }
+    ensures answer { result ≡ unless (entry_fault (S.meaning store.now) [] 0 actors.now) tt }
     ensures named { OnOk result (lists actors.now 0 ≡ false) }
 {
     for i in 0..actors.len() {
@@ -43,7 +43,7 @@ fn check_entries<S: ActorStore>(store: &S, actors: &[u16]) -> Result<(), Fault>
 
 impl<S: ActorStore> Hub<S> {
     fn is_full(&self) -> bool
-        ensures answer { result ≡ nat_le 32 (length (switches_of (hub_model S.ActorStore.meaning self.now))) }
+        ensures answer { result ≡ nat_le 32 (length (switches_of (hub_model S.meaning self.now))) }
         ensures count { result ≡ nat_le 32 self.now.count }
     {
         self.count >= MOST_SWITCHES
@@ -51,7 +51,7 @@ impl<S: ActorStore> Hub<S> {
 
     // Whether such a switch may be enrolled.
     fn may_enrol(&self, id: u16, actors: &[u16]) -> Result<(), Fault>
-        ensures answer { result ≡ unless (enrol_fault (hub_model S.ActorStore.meaning self.now) id actors.now) tt }
+        ensures answer { result ≡ unless (enrol_fault (hub_model S.meaning self.now) id actors.now) tt }
         ensures room { OnOk result ((self.now.count < 32) × (length actors.now ≤ 64) × (lists actors.now 0 ≡ false)) }
     {
         if id == 0 || self.find(id).is_some() {
@@ -69,7 +69,7 @@ impl<S: ActorStore> Hub<S> {
     // Puts a switch behind the others.
     fn add(&mut self, id: u16, actors: &[u16])
         requires { (self.old.count < 32) × ((length actors.now ≤ 64) × (lists actors.now 0 ≡ false)) }
-        ensures { hub_model S.ActorStore.meaning self.new ≡ with_switches (switches_of (hub_model S.ActorStore.meaning self.old) ++ new_switch id actors.now ∷ []) (hub_model S.ActorStore.meaning self.old) }
+        ensures { hub_model S.meaning self.new ≡ with_switches (switches_of (hub_model S.meaning self.old) ++ new_switch id actors.now ∷ []) (hub_model S.meaning self.old) }
     {
         if let Some(switch) = Switch::new(id, actors) {
             let count = self.count;
@@ -80,8 +80,8 @@ impl<S: ActorStore> Hub<S> {
 
     // Enrols a switch with the actors that it lists, every item due.
     pub fn enrol(&mut self, id: u16, actors: &[u16]) -> Result<(), Fault>
-        ensures answer { result ≡ answer_of (enrol_step (hub_model S.ActorStore.meaning self.old) id actors.now) }
-        ensures after { hub_model S.ActorStore.meaning self.new ≡ hub_after (hub_model S.ActorStore.meaning self.old) (enrol_step (hub_model S.ActorStore.meaning self.old) id actors.now) }
+        ensures answer { result ≡ answer_of (enrol_step (hub_model S.meaning self.old) id actors.now) }
+        ensures after { hub_model S.meaning self.new ≡ hub_after (hub_model S.meaning self.old) (enrol_step (hub_model S.meaning self.old) id actors.now) }
     {
         self.may_enrol(id, actors)?;
         self.add(id, actors);

@@ -24,7 +24,7 @@ fn is_open(slip: Option<u16>, number: u16) -> bool
 impl<S: ActorStore> Hub<S> {
     // Whether this hub issued the slip and has not had it back.
     fn is_owed(&self, slip: &Slip) -> bool
-        ensures { result ≡ owed (hub_model S.ActorStore.meaning self.now) slip.now }
+        ensures { result ≡ owed (hub_model S.meaning self.now) slip.now }
     {
         match self.find(slip.switch) {
             Some(switch) => is_open(switch.numbers().slip, slip.number),
@@ -34,8 +34,8 @@ impl<S: ActorStore> Hub<S> {
 
     // The packet was sent: its slip is closed. A slip that is not owed is handed back.
     pub fn sent(&mut self, slip: Slip) -> Result<(), (Fault, Slip)>
-        ensures answer { result ≡ slip_answer slip (sent_step (hub_model S.ActorStore.meaning self.old) slip.switch slip.number) }
-        ensures after { hub_model S.ActorStore.meaning self.new ≡ hub_after (hub_model S.ActorStore.meaning self.old) (sent_step (hub_model S.ActorStore.meaning self.old) slip.switch slip.number) }
+        ensures answer { result ≡ slip_answer slip (sent_step (hub_model S.meaning self.old) slip.switch slip.number) }
+        ensures after { hub_model S.meaning self.new ≡ hub_after (hub_model S.meaning self.old) (sent_step (hub_model S.meaning self.old) slip.switch slip.number) }
     {
         if !self.is_owed(&slip) {
             return Err((Fault::Call(CallFault::NoSlip, 0), slip));
@@ -48,8 +48,8 @@ impl<S: ActorStore> Hub<S> {
 
     // The packet was withheld: its slip is closed, what it carried is due again, and no answer is awaited.
     pub fn withheld(&mut self, slip: Slip) -> Result<(), (Fault, Slip)>
-        ensures answer { result ≡ slip_answer slip (withheld_step (hub_model S.ActorStore.meaning self.old) slip.switch slip.number) }
-        ensures after { hub_model S.ActorStore.meaning self.new ≡ hub_after (hub_model S.ActorStore.meaning self.old) (withheld_step (hub_model S.ActorStore.meaning self.old) slip.switch slip.number) }
+        ensures answer { result ≡ slip_answer slip (withheld_step (hub_model S.meaning self.old) slip.switch slip.number) }
+        ensures after { hub_model S.meaning self.new ≡ hub_after (hub_model S.meaning self.old) (withheld_step (hub_model S.meaning self.old) slip.switch slip.number) }
     {
         if !self.is_owed(&slip) {
             return Err((Fault::Call(CallFault::NoSlip, 0), slip));

@@ -17,8 +17,8 @@ pub const MOST_SWITCHES: usize = 32;
 impl<S: ActorStore> Hub<S> {
     // A hub with no switch over the store; the store comes back where the version is not ours.
     pub fn open(store: S, site: Site) -> Result<Hub<S>, (Fault, S)>
-        ensures answer { seen S.ActorStore.meaning result ≡ handed_back store (opened site (S.ActorStore.meaning store)) }
-        ensures law { IfOpened (TruthfulSwitches site (S.ActorStore.meaning store)) result }
+        ensures answer { seen S.meaning result ≡ handed_back store (opened site (S.meaning store)) }
+        ensures law { IfOpened (TruthfulSwitches site (S.meaning store)) result }
     {
         let [_, major] = site.version.to_le_bytes();
         if major != MAJOR_VERSION {

@@ -11,7 +11,7 @@ use store::meaning::ActorStore;
 impl<S: ActorStore> Hub<S> {
     // How a switch stands to an actor that it lists.
     pub fn actor_mark(&self, id: u16, actor: u16) -> Result<Mark, Fault>
-        ensures { result ≡ actor_mark (hub_model S.ActorStore.meaning self.now) id actor }
+        ensures { result ≡ actor_mark (hub_model S.meaning self.now) id actor }
     {
         match self.find(id) {
             None => Err(Fault::Frame(FrameFault::Switch, 0)),
@@ -24,7 +24,7 @@ impl<S: ActorStore> Hub<S> {
 
     // How a switch stands to its control word.
     pub fn control_mark(&self, id: u16) -> Result<Mark, Fault>
-        ensures { result ≡ control_mark (hub_model S.ActorStore.meaning self.now) id }
+        ensures { result ≡ control_mark (hub_model S.meaning self.now) id }
     {
         match self.find(id) {
             None => Err(Fault::Frame(FrameFault::Switch, 0)),
@@ -34,7 +34,7 @@ impl<S: ActorStore> Hub<S> {
 
     // The flags that a switch last reported.
     pub fn flags(&self, id: u16) -> Result<u32, Fault>
-        ensures { result ≡ flags_of (hub_model S.ActorStore.meaning self.now) id }
+        ensures { result ≡ flags_of (hub_model S.meaning self.now) id }
     {
         match self.find(id) {
             None => Err(Fault::Frame(FrameFault::Switch, 0)),
@@ -44,7 +44,7 @@ impl<S: ActorStore> Hub<S> {
 
     // The key last pressed at a switch.
     pub fn latest_key(&self, id: u16) -> Result<Option<KeyPress>, Fault>
-        ensures { result ≡ key_of (hub_model S.ActorStore.meaning self.now) id }
+        ensures { result ≡ key_of (hub_model S.meaning self.now) id }
     {
         match self.find(id) {
             None => Err(Fault::Frame(FrameFault::Switch, 0)),
@@ -54,7 +54,7 @@ impl<S: ActorStore> Hub<S> {
 
     // The temperature that a switch last read, in tenths of a degree.
     pub fn reading(&self, id: u16) -> Result<Option<i16>, Fault>
-        ensures { result ≡ reading_at (hub_model S.ActorStore.meaning self.now) id }
+        ensures { result ≡ reading_at (hub_model S.meaning self.now) id }
     {
         match self.find(id) {
             None => Err(Fault::Frame(FrameFault::Switch, 0)),
@@ -64,7 +64,7 @@ impl<S: ActorStore> Hub<S> {
 
     // Whether a switch has any item outstanding.
     pub fn has_outstanding(&self, id: u16) -> Result<bool, Fault>
-        ensures { result ≡ outstanding_at (hub_model S.ActorStore.meaning self.now) id }
+        ensures { result ≡ outstanding_at (hub_model S.meaning self.now) id }
     {
         match self.find(id) {
             None => Err(Fault::Frame(FrameFault::Switch, 0)),

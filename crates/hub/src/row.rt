@@ -13,14 +13,14 @@ use switch::{Switch, SwitchStep};
 impl<S: ActorStore> Hub<S> {
     // The enrolled switch with this ID.
     pub(crate) fn find(&self, id: u16) -> Option<&Switch>
-        ensures { option_map (λ s. switch_model s.now) result ≡ find_switch id (switches_of (hub_model S.ActorStore.meaning self.now)) }
+        ensures { option_map (λ s. switch_model s.now) result ≡ find_switch id (switches_of (hub_model S.meaning self.now)) }
     {
         switch::find(&self.switches[0..self.count], id)
     }
 
     // An actor becomes due at every switch that lists it.
     pub(crate) fn touch(&mut self, actor: u16)
-        ensures { hub_model S.ActorStore.meaning self.new ≡ with_switches (map (touched actor) (switches_of (hub_model S.ActorStore.meaning self.old))) (hub_model S.ActorStore.meaning self.old) }
+        ensures { hub_model S.meaning self.new ≡ with_switches (map (touched actor) (switches_of (hub_model S.meaning self.old))) (hub_model S.meaning self.old) }
     {
         let count = self.count;
         switch::touch_all(&mut self.switches[0..count], actor);
@@ -28,7 +28,7 @@ impl<S: ActorStore> Hub<S> {
 
     // Moves the switch with this ID, if it is enrolled.
     pub(crate) fn apply(&mut self, id: u16, step: SwitchStep)
-        ensures { hub_model S.ActorStore.meaning self.new ≡ change_switch id (stepped step) (hub_model S.ActorStore.meaning self.old) }
+        ensures { hub_model S.meaning self.new ≡ change_switch id (stepped step) (hub_model S.meaning self.old) }
     {
         let count = self.count;
         switch::apply_at(&mut self.switches[0..count], id, step);

@@ -23,8 +23,8 @@ fn is_lawful_control(word: u32) -> bool
 impl<S: ActorStore> Hub<S> {
     // Puts a value, and makes its actor due at every switch that lists it.
     pub(crate) fn set_value(&mut self, actor: u16, half: Half, value: i16) -> Result<(), Fault>
-        ensures answer { result ≡ answer_of (set_value (hub_model S.ActorStore.meaning self.old) actor half value) }
-        ensures after { hub_model S.ActorStore.meaning self.new ≡ hub_after (hub_model S.ActorStore.meaning self.old) (set_value (hub_model S.ActorStore.meaning self.old) actor half value) }
+        ensures answer { result ≡ answer_of (set_value (hub_model S.meaning self.old) actor half value) }
+        ensures after { hub_model S.meaning self.new ≡ hub_after (hub_model S.meaning self.old) (set_value (hub_model S.meaning self.old) actor half value) }
     {
         self.store.put(actor, half, value)?;
         self.touch(actor);
@@ -33,24 +33,24 @@ impl<S: ActorStore> Hub<S> {
 
     // Sets the actual value of an actor.
     pub fn set_actual(&mut self, actor: u16, value: i16) -> Result<(), Fault>
-        ensures answer { result ≡ answer_of (set_value (hub_model S.ActorStore.meaning self.old) actor Actual value) }
-        ensures after { hub_model S.ActorStore.meaning self.new ≡ hub_after (hub_model S.ActorStore.meaning self.old) (set_value (hub_model S.ActorStore.meaning self.old) actor Actual value) }
+        ensures answer { result ≡ answer_of (set_value (hub_model S.meaning self.old) actor Actual value) }
+        ensures after { hub_model S.meaning self.new ≡ hub_after (hub_model S.meaning self.old) (set_value (hub_model S.meaning self.old) actor Actual value) }
     {
         self.set_value(actor, Half::Actual, value)
     }
 
     // Sets the target of an actor.
     pub fn set_target(&mut self, actor: u16, value: i16) -> Result<(), Fault>
-        ensures answer { result ≡ answer_of (set_value (hub_model S.ActorStore.meaning self.old) actor Target value) }
-        ensures after { hub_model S.ActorStore.meaning self.new ≡ hub_after (hub_model S.ActorStore.meaning self.old) (set_value (hub_model S.ActorStore.meaning self.old) actor Target value) }
+        ensures answer { result ≡ answer_of (set_value (hub_model S.meaning self.old) actor Target value) }
+        ensures after { hub_model S.meaning self.new ≡ hub_after (hub_model S.meaning self.old) (set_value (hub_model S.meaning self.old) actor Target value) }
     {
         self.set_value(actor, Half::Target, value)
     }
 
     // Sets the control word of a switch.
     pub fn set_control(&mut self, id: u16, word: u32) -> Result<(), Fault>
-        ensures answer { result ≡ answer_of (set_control (hub_model S.ActorStore.meaning self.old) id word) }
-        ensures after { hub_model S.ActorStore.meaning self.new ≡ hub_after (hub_model S.ActorStore.meaning self.old) (set_control (hub_model S.ActorStore.meaning self.old) id word) }
+        ensures answer { result ≡ answer_of (set_control (hub_model S.meaning self.old) id word) }
+        ensures after { hub_model S.meaning self.new ≡ hub_after (hub_model S.meaning self.old) (set_control (hub_model S.meaning self.old) id word) }
     {
         if self.find(id).is_none() {
             return Err(Fault::Frame(FrameFault::Switch, 0));

@@ -85,7 +85,7 @@ fn next_message(cursor: &mut Cursor<'_>) -> Option<Message>
 impl<S: ActorStore> Hub<S> {
     // What one message of an event does.
     fn hear(&mut self, id: u16, message: Message)
-        ensures { hub_model S.ActorStore.meaning self.new ≡ heard_message id message (hub_model S.ActorStore.meaning self.old) }
+        ensures { hub_model S.meaning self.new ≡ heard_message id message (hub_model S.meaning self.old) }
     {
         let Message::Known(record) = message else {
             return;
@@ -104,7 +104,7 @@ impl<S: ActorStore> Hub<S> {
     // The applying pass, over a payload whose messages all read.
     fn hear_all(&mut self, id: u16, payload: &[u8])
         requires { is_ok (messages_from payload.now 16) ≡ true }
-        ensures { hub_model S.ActorStore.meaning self.new ≡ heard_all id (messages_from payload.now 16) (hub_model S.ActorStore.meaning self.old) }
+        ensures { hub_model S.meaning self.new ≡ heard_all id (messages_from payload.now 16) (hub_model S.meaning self.old) }
     {
         let mut cursor = Cursor::new(payload);
         while let Some(message) = next_message(&mut cursor) {
@@ -120,8 +120,8 @@ impl<S: ActorStore> Hub<S> {
         survey: Survey,
     ) -> Result<(Arrival, usize), Fault>
         requires { is_ok (messages_from payload.now 16) ≡ true }
-        ensures answer { result ≡ answer_of (event_unless survey.unlisted survey.understood (heard_all id (messages_from payload.now 16) (hub_model S.ActorStore.meaning self.old))) }
-        ensures after { hub_model S.ActorStore.meaning self.new ≡ hub_after (hub_model S.ActorStore.meaning self.old) (event_unless survey.unlisted survey.understood (heard_all id (messages_from payload.now 16) (hub_model S.ActorStore.meaning self.old))) }
+        ensures answer { result ≡ answer_of (event_unless survey.unlisted survey.understood (heard_all id (messages_from payload.now 16) (hub_model S.meaning self.old))) }
+        ensures after { hub_model S.meaning self.new ≡ hub_after (hub_model S.meaning self.old) (event_unless survey.unlisted survey.understood (heard_all id (messages_from payload.now 16) (hub_model S.meaning self.old))) }
     {
         if let Some(place) = survey.unlisted {
             return Err(Fault::Actor(ActorFault::NotListed, place));
@@ -133,7 +133,7 @@ impl<S: ActorStore> Hub<S> {
     // An answer: only the awaited one settles what is under way, and no value that it repeats is stored.
     fn take_answer(&mut self, id: u16, is_awaited: bool, understood: usize) -> (Arrival, usize)
         ensures answer { result ≡ (cond is_awaited Answer Stale, understood) }
-        ensures after { hub_model S.ActorStore.meaning self.new ≡ cond is_awaited (change_switch id answered (hub_model S.ActorStore.meaning self.old)) (hub_model S.ActorStore.meaning self.old) }
+        ensures after { hub_model S.meaning self.new ≡ cond is_awaited (change_switch id answered (hub_model S.meaning self.old)) (hub_model S.meaning self.old) }
     {
         if !is_awaited {
             return (Arrival::Stale, understood);
@@ -144,8 +144,8 @@ impl<S: ActorStore> Hub<S> {
 
     // Takes a payload from a switch: all of it, or nothing.
     pub fn take(&mut self, payload: &[u8]) -> Result<(Arrival, usize), Fault>
-        ensures answer { result ≡ answer_of (take_payload (hub_model S.ActorStore.meaning self.old) payload.now) }
-        ensures after { hub_model S.ActorStore.meaning self.new ≡ hub_after (hub_model S.ActorStore.meaning self.old) (take_payload (hub_model S.ActorStore.meaning self.old) payload.now) }
+        ensures answer { result ≡ answer_of (take_payload (hub_model S.meaning self.old) payload.now) }
+        ensures after { hub_model S.meaning self.new ≡ hub_after (hub_model S.meaning self.old) (take_payload (hub_model S.meaning self.old) payload.now) }
     {
         let words = Descriptor::read(payload)?;
         if words.project != self.site.project {
