@@ -9,7 +9,7 @@ ghost use Rattle.hub.specs.Memory.{hub_model};
 use crate::memory::Hub;
 use crate::slip::Slip;
 use crate::writing::write_packet;
-use fault::{CallFault, Fault, FrameFault};
+use fault::{CallFault, Fault};
 use packet::{DESCRIPTOR_LEN, Descriptor};
 use store::meaning::ActorStore;
 use switch::{Switch, SwitchStep};
@@ -83,10 +83,7 @@ impl<S: ActorStore> Hub<S> {
         ensures after { hub_model S.meaning self.new ≡ hub_after (hub_model S.meaning self.old) (compose_step (hub_model S.meaning self.old) id buf.old) }
         ensures bytes { buf.new ≡ composed_bytes (hub_model S.meaning self.old) id buf.old }
     {
-        let composed = match self.find(id) {
-            Some(switch) => self.write_for(id, switch, buf)?,
-            None => return Err(Fault::Frame(FrameFault::Switch, 0)),
-        };
+        let composed = self.write_for(id, self.enrolled(id)?, buf)?;
         self.apply(id, SwitchStep::Compose);
         Ok(composed)
     }

@@ -1,5 +1,5 @@
 // The hub's switches: looking one up, and moving one or all of them.
-ghost use Rattle.std.specs.Prelude.{◌≡◌, map};
+ghost use Rattle.std.specs.Prelude.{◌≡◌, map, Some, None, IfOk, IfErr, OnErr};
 ghost use Rattle.std.specs.Option.{option_map};
 ghost use Rattle.model.specs.Models.{change_switch, find_switch, switches_of, touched, with_switches};
 ghost use Rattle.switch.specs.Memory.{switch_model};
@@ -7,6 +7,7 @@ ghost use Rattle.switch.specs.Steps.{stepped};
 ghost use Rattle.hub.specs.Memory.{hub_model};
 
 use crate::memory::Hub;
+use fault::{Fault, FrameFault};
 use store::meaning::ActorStore;
 use switch::{Switch, SwitchStep};
 
@@ -16,6 +17,15 @@ impl<S: ActorStore> Hub<S> {
         ensures { option_map (λ s. switch_model s.now) result ≡ find_switch id (switches_of (hub_model S.meaning self.now)) }
     {
         switch::find(&self.switches[0..self.count], id)
+    }
+
+    // The enrolled switch with this ID, or the refusal of one that is not enrolled.
+    pub(crate) fn enrolled(&self, id: u16) -> Result<&Switch, Fault>
+        ensures found { IfOk result (λ s. find_switch id (switches_of (hub_model S.meaning self.now)) ≡ Some (switch_model s.now)) }
+        ensures missing { OnErr result (find_switch id (switches_of (hub_model S.meaning self.now)) ≡ None) }
+        ensures refused { IfErr result (λ e. e ≡ Fault.Frame FrameFault.Switch 0) }
+    {
+        self.find(id).ok_or(Fault::Frame(FrameFault::Switch, 0))
     }
 
     // An actor becomes due at every switch that lists it.

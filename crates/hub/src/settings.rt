@@ -6,7 +6,7 @@ ghost use Rattle.store.specs.declared.meaning.Half.TheVariants.{Actual, Target};
 ghost use Rattle.hub.specs.Memory.{hub_model};
 
 use crate::memory::Hub;
-use fault::{CallFault, Fault, FrameFault};
+use fault::{CallFault, Fault};
 use kind::CONTROL_BITS;
 use store::meaning::{ActorStore, Half};
 use switch::SwitchStep;
@@ -52,9 +52,7 @@ impl<S: ActorStore> Hub<S> {
         ensures answer { result ≡ answer_of (set_control (hub_model S.meaning self.old) id word) }
         ensures after { hub_model S.meaning self.new ≡ hub_after (hub_model S.meaning self.old) (set_control (hub_model S.meaning self.old) id word) }
     {
-        if self.find(id).is_none() {
-            return Err(Fault::Frame(FrameFault::Switch, 0));
-        }
+        self.enrolled(id)?;
         if !is_lawful_control(word) {
             return Err(Fault::Call(CallFault::ControlWord, 0));
         }
