@@ -29,12 +29,11 @@ fn check_entries<S: ActorStore>(store: &S, actors: &[u16]) -> Result<(), Fault>
     ensures answer { result ≡ unless (entry_fault (S.meaning store.now) [] 0 actors.now) tt }
     ensures named { OnOk result (lists actors.now 0 ≡ false) }
 {
-    for i in 0..actors.len() {
-        let actor = actors[i];
-        if is_unfit(&actors[0..i], actor) {
+    for (i, actor) in actors.iter().enumerate() {
+        if is_unfit(&actors[..i], *actor) {
             return Err(Fault::Store(StoreFault::ListEntry, i));
         }
-        if !is_known(store, actor) {
+        if !is_known(store, *actor) {
             return Err(Fault::Store(StoreFault::UnknownActor, i));
         }
     }
@@ -52,7 +51,9 @@ impl<S: ActorStore> Hub<S> {
     // Whether such a switch may be enrolled.
     fn may_enrol(&self, id: u16, actors: &[u16]) -> Result<(), Fault>
         ensures answer { result ≡ unless (enrol_fault (hub_model S.meaning self.now) id actors.now) tt }
-        ensures room { OnOk result ((self.now.count < 32) × (length actors.now ≤ 64) × (lists actors.now 0 ≡ false)) }
+        ensures room { OnOk result (self.now.count < 32) }
+        ensures few { OnOk result (length actors.now ≤ 64) }
+        ensures named { OnOk result (lists actors.now 0 ≡ false) }
     {
         if id == 0 || self.find(id).is_some() {
             return Err(Fault::Call(CallFault::SwitchTaken, 0));
@@ -68,7 +69,9 @@ impl<S: ActorStore> Hub<S> {
 
     // Puts a switch behind the others.
     fn add(&mut self, id: u16, actors: &[u16])
-        requires { (self.old.count < 32) × ((length actors.now ≤ 64) × (lists actors.now 0 ≡ false)) }
+        requires room { self.old.count < 32 }
+        requires few { length actors.now ≤ 64 }
+        requires named { lists actors.now 0 ≡ false }
         ensures { hub_model S.meaning self.new ≡ with_switches (switches_of (hub_model S.meaning self.old) ++ new_switch id actors.now ∷ []) (hub_model S.meaning self.old) }
     {
         if let Some(switch) = Switch::new(id, actors) {

@@ -16,7 +16,7 @@ use store::meaning::{ActorStore, Half};
 use switch::{Switch, SwitchStep};
 
 // What the checking pass found: how many messages are understood, and where the first stands that is for an actor not listed.
-#[derive(Clone, Copy)]
+#[derive(Clone, Copy, Default)]
 pub(crate) struct Survey {
     pub(crate) understood: usize,
     pub(crate) unlisted: Option<usize>,
@@ -27,26 +27,25 @@ fn is_listed(switch: &Switch, message: Message) -> bool
     ensures { result ≡ message_listed (items_in switch.now) message }
 {
     match message {
-        Message::Known(Record::EditValue { actor, target: _ }) => switch.lists(actor),
-        Message::Known(Record::Event { actor, key: _ }) => switch.lists(actor),
+        Message::Known(Record::EditValue { actor, .. } | Record::Event { actor, .. }) => {
+            switch.lists(actor)
+        }
         _ => true,
     }
 }
 
-// A survey with one message more.
-fn note(survey: Survey, switch: &Switch, place: usize, message: Message) -> Survey
-    requires { survey.understood < 2 ^ 63 }
-    ensures { result ≡ noted (items_in switch.now) place message survey }
-{
-    let unlisted = match survey.unlisted {
-        Some(first) => Some(first),
-        None if is_listed(switch, message) => None,
-        None => Some(place),
-    };
-    let one = if message.is_known() { 1 } else { 0 };
-    Survey {
-        understood: survey.understood + one,
-        unlisted,
+impl Survey {
+    // One message more.
+    fn note(&mut self, switch: &Switch, place: usize, message: Message)
+        requires { self.old.understood < 2 ^ 63 }
+        ensures { self.new ≡ noted (items_in switch.now) place message self.old }
+    {
+        if self.unlisted.is_none() && !is_listed(switch, message) {
+            self.unlisted = Some(place);
+        }
+        if message.is_known() {
+            self.understood += 1;
+        }
     }
 }
 
@@ -56,12 +55,9 @@ fn check_messages(switch: &Switch, payload: &[u8]) -> Result<Survey, Fault>
     ensures { result ≡ survey_of (items_in switch.now) (messages_from payload.now 16) }
 {
     let mut cursor = Cursor::new(payload);
-    let mut survey = Survey {
-        understood: 0,
-        unlisted: None,
-    };
+    let mut survey = Survey::default();
     while let Some((place, message)) = cursor.next()? {
-        survey = note(survey, switch, place, message);
+        survey.note(switch, place, message);
     }
     Ok(survey)
 }
@@ -74,10 +70,7 @@ fn next_message(cursor: &mut Cursor<'_>) -> Option<Message>
     ensures walked { Heard cursor.old.payload.now cursor.old.place cursor.new.place result }
 {
     match cursor.next() {
-        Ok(next) => match next {
-            Some((_, message)) => Some(message),
-            None => None,
-        },
+        Ok(next) => next.map(|(_, message)| message),
         Err(_) => unreachable(),
     }
 }

@@ -17,7 +17,7 @@ loop-place-preserved c =
     let moves = subst (λ o. IfSome o (λ _. (from + 4 ≤ to) × (to ≤ length c.loop-place.cursor.payload.now))) c.in-Some.is t.moves in
     let walked = subst (λ (l : List ℕ). Walked l from to (Ok (Some (c.in-Some.place, c.in-Some.message)))) i.0 (subst (λ o. Walked c.loop-place.cursor.payload.now from to (Ok o)) c.in-Some.is t.walked) in
     let few = noted_few items c.in-Some.place c.in-Some.message c.loop-place.survey in
-    let same = c.note-survey.ensures in
+    let same = c.note.ensures in
     let long = ap length i.0 in (
       t.payload ∙ i.0,
       subst (λ (s : Survey). s.understood ≤ to) (sym same) (omega (arith, moves.0, i.1)),
