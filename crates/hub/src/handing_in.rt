@@ -9,7 +9,6 @@ use crate::memory::Hub;
 use crate::slip::Slip;
 use fault::{CallFault, Fault};
 use store::meaning::ActorStore;
-use switch::SwitchStep;
 
 impl<S: ActorStore> Hub<S> {
     // Whether this hub issued the slip and has not had it back.
@@ -38,7 +37,7 @@ impl<S: ActorStore> Hub<S> {
         ensures after { hub_model S.meaning self.new ≡ hub_after (hub_model S.meaning self.old) (sent_step (hub_model S.meaning self.old) slip.switch slip.number) }
     {
         let id = self.redeem(slip)?;
-        self.apply(id, SwitchStep::CloseSlip);
+        self.change(id, |switch| switch.close_slip());
         Ok(())
     }
 
@@ -48,7 +47,7 @@ impl<S: ActorStore> Hub<S> {
         ensures after { hub_model S.meaning self.new ≡ hub_after (hub_model S.meaning self.old) (withheld_step (hub_model S.meaning self.old) slip.switch slip.number) }
     {
         let id = self.redeem(slip)?;
-        self.apply(id, SwitchStep::BringBack);
+        self.change(id, |switch| switch.bring_back());
         Ok(())
     }
 }

@@ -5,14 +5,11 @@ ghost use Rattle.law.specs.Law.{TruthfulSwitches};
 ghost use Rattle.hub.specs.Memory.{IfOpened, handed_back, seen};
 
 use crate::memory::Hub;
+use arrayvec::ArrayVec;
 use fault::{Fault, FrameFault};
 use model::Site;
 use packet::MAJOR_VERSION;
 use store::meaning::ActorStore;
-use switch::Switch;
-
-// How many switches a hub serves at most.
-pub const MOST_SWITCHES: usize = 32;
 
 impl<S: ActorStore> Hub<S> {
     // A hub with no switch over the store; the store comes back where the version is not ours.
@@ -26,8 +23,7 @@ impl<S: ActorStore> Hub<S> {
         }
         Ok(Hub {
             site,
-            switches: [Switch::blank(); MOST_SWITCHES],
-            count: 0,
+            switches: ArrayVec::new(),
             store,
         })
     }

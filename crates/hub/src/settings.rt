@@ -9,7 +9,6 @@ use crate::memory::Hub;
 use fault::{CallFault, Fault};
 use kind::CONTROL_BITS;
 use store::meaning::{ActorStore, Half};
-use switch::SwitchStep;
 
 // The bit that a control word must have.
 const CONTROL_MUST: u32 = 1 << 8;
@@ -56,7 +55,7 @@ impl<S: ActorStore> Hub<S> {
         if !is_lawful_control(word) {
             return Err(Fault::Call(CallFault::ControlWord, 0));
         }
-        self.apply(id, SwitchStep::SetControl(word));
+        self.change(id, |switch| switch.set_control(word));
         Ok(())
     }
 }

@@ -4,7 +4,6 @@ ghost use Rattle.packet.specs.Reading.{messages_from};
 ghost use Rattle.model.specs.Models.{answer_of, change_switch, hub_after};
 ghost use Rattle.model.specs.Taking.{answered, event_unless, heard_message, message_listed, take_payload};
 ghost use Rattle.model.specs.declared.told.Arrival.TheVariants.{Answer, Stale};
-ghost use Rattle.switch.specs.Memory.{items_in};
 ghost use Rattle.hub.specs.Memory.{hub_model};
 ghost use Rattle.hub.specs.Surveys.{Heard, heard_all, noted, survey_of};
 
@@ -13,7 +12,7 @@ use fault::{ActorFault, Fault, FrameFault};
 use model::Arrival;
 use packet::{Cursor, Descriptor, Message, Record};
 use store::meaning::{ActorStore, Half};
-use switch::{Switch, SwitchStep};
+use switch::Switch;
 
 // What the checking pass found: how many messages are understood, and where the first stands that is for an actor not listed.
 #[derive(Clone, Copy, Default)]
@@ -24,7 +23,7 @@ pub(crate) struct Survey {
 
 // Whether the switch may send this message.
 fn is_listed(switch: &Switch, message: Message) -> bool
-    ensures { result ≡ message_listed (items_in switch.now) message }
+    ensures { result ≡ message_listed switch.now.items message }
 {
     match message {
         Message::Known(Record::EditValue { actor, .. } | Record::Event { actor, .. }) => {
@@ -38,7 +37,7 @@ impl Survey {
     // One message more.
     fn note(&mut self, switch: &Switch, place: usize, message: Message)
         requires { self.old.understood < 2 ^ 63 }
-        ensures { self.new ≡ noted (items_in switch.now) place message self.old }
+        ensures { self.new ≡ noted switch.now.items place message self.old }
     {
         if self.unlisted.is_none() && !is_listed(switch, message) {
             self.unlisted = Some(place);
@@ -52,7 +51,7 @@ impl Survey {
 // The checking pass: every message must read.
 fn check_messages(switch: &Switch, payload: &[u8]) -> Result<Survey, Fault>
     requires { length payload.now ≤ 1472 }
-    ensures { result ≡ survey_of (items_in switch.now) (messages_from payload.now 16) }
+    ensures { result ≡ survey_of switch.now.items (messages_from payload.now 16) }
 {
     let mut cursor = Cursor::new(payload);
     let mut survey = Survey::default();
@@ -84,12 +83,16 @@ impl<S: ActorStore> Hub<S> {
             return;
         };
         match record {
-            Record::State(flags) => self.apply(id, SwitchStep::TellState(flags)),
+            Record::State(flags) => self.change(id, |switch| switch.tell_state(flags)),
             Record::EditValue { actor, target } => {
                 let _ = self.set_value(actor, Half::Target, target);
             }
-            Record::Event { actor, key } => self.apply(id, SwitchStep::PressKey { actor, key }),
-            Record::Temperature(reading) => self.apply(id, SwitchStep::TellReading(reading)),
+            Record::Event { actor, key } => {
+                self.change(id, |switch| switch.press_key(actor, key))
+            }
+            Record::Temperature(reading) => {
+                self.change(id, |switch| switch.tell_reading(reading))
+            }
             Record::Control(_) | Record::RealValue { .. } => {}
         }
     }
@@ -131,7 +134,7 @@ impl<S: ActorStore> Hub<S> {
         if !is_awaited {
             return (Arrival::Stale, understood);
         }
-        self.apply(id, SwitchStep::Answer);
+        self.change(id, |switch| switch.answer());
         (Arrival::Answer, understood)
     }
 

@@ -8,7 +8,6 @@ ghost use Rattle.packet.specs.Words.{major};
 ghost use Rattle.model.specs.Composing.{actor_records, item_records, outstanding_actors, records_for, values_of};
 ghost use Rattle.model.specs.Marks.{is_outstanding};
 ghost use Rattle.switch.specs.Items.{all_named};
-ghost use Rattle.switch.specs.Memory.{switch_model};
 ghost use Rattle.hub.specs.Compositions.{packet_length};
 ghost use Rattle.hub.specs.Writing.{Began, Finished, Wrote};
 
@@ -103,8 +102,8 @@ pub(crate) fn write_packet<S: ActorStore>(
     words: Descriptor,
     buf: &mut [u8],
 )
-    requires { (major words.version ≡ 2) × (packet_length (switch_model switch.now) ≤ length buf.old) }
-    ensures { buf.new ≡ packet_bytes words (records_for (S.meaning store.now) (switch_model switch.now)) ++ drop (packet_length (switch_model switch.now)) buf.old }
+    requires { (major words.version ≡ 2) × (packet_length switch.now ≤ length buf.old) }
+    ensures { buf.new ≡ packet_bytes words (records_for (S.meaning store.now) switch.now) ++ drop (packet_length switch.now) buf.old }
 {
     let draft = begin(buf, words);
     let draft = write_items(store, switch.items(), draft, buf);
