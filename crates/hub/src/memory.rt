@@ -7,11 +7,14 @@ use model::Site;
 use store::meaning::ActorStore;
 use switch::Switch;
 
+// How many switches a hub serves at most.
+const MOST_SWITCHES: usize = 32;
+
 // The switches lie in order of enrolment.
 #[derive(Drop)]
 pub struct Hub<S: ActorStore> {
     pub(crate) site: Site,
-    pub(crate) switches: ArrayVec<Switch, 32>,
+    pub(crate) switches: ArrayVec<Switch, MOST_SWITCHES>,
     pub(crate) store: S,
     ghost ours: { major site.version ≡ 2 },
 }

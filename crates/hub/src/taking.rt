@@ -1,16 +1,15 @@
 // Taking a payload: one pass that checks all of it, then one that applies it, where it lies.
-ghost use Rattle.std.specs.Prelude.{◌≡◌, ◌^◌, ◌<◌, ◌≤◌, true, cond, length, is_ok, OnSome};
+ghost use Rattle.std.specs.Prelude.{◌≡◌, ◌^◌, ◌<◌, ◌≤◌, true, length, is_ok, OnSome};
 ghost use Rattle.packet.specs.Reading.{messages_from};
-ghost use Rattle.model.specs.Models.{answer_of, change_switch, hub_after};
-ghost use Rattle.model.specs.Taking.{answered, event_unless, heard_message, message_listed, take_payload};
-ghost use Rattle.model.specs.declared.told.Arrival.TheVariants.{Answer, Stale};
+ghost use Rattle.model.specs.Models.{answer_of, hub_after};
+ghost use Rattle.model.specs.Taking.{event_unless, heard_message, message_listed, take_payload};
 ghost use Rattle.hub.specs.Memory.{hub_model};
 ghost use Rattle.hub.specs.Surveys.{Heard, heard_all, noted, survey_of};
 
 use crate::memory::Hub;
 use fault::{ActorFault, Fault, FrameFault};
 use model::Arrival;
-use packet::{Cursor, Descriptor, Message, Record};
+use packet::{Cursor, Descriptor, Message, Record, Sort};
 use store::meaning::{ActorStore, Half};
 use switch::Switch;
 
@@ -126,19 +125,8 @@ impl<S: ActorStore> Hub<S> {
         Ok((Arrival::Event, survey.understood))
     }
 
-    // An answer: only the awaited one settles what is under way, and no value that it repeats is stored.
-    fn take_answer(&mut self, id: u16, is_awaited: bool, understood: usize) -> (Arrival, usize)
-        ensures answer { result ≡ (cond is_awaited Answer Stale, understood) }
-        ensures after { hub_model S.meaning self.new ≡ cond is_awaited (change_switch id answered (hub_model S.meaning self.old)) (hub_model S.meaning self.old) }
-    {
-        if !is_awaited {
-            return (Arrival::Stale, understood);
-        }
-        self.change(id, |switch| switch.answer());
-        (Arrival::Answer, understood)
-    }
-
-    // Takes a payload from a switch: all of it, or nothing.
+    // Takes a payload from a switch: all of it, or nothing. Of answers only the awaited one settles what is under way,
+    // and no value that one repeats is stored.
     pub fn take(&mut self, payload: &[u8]) -> Result<(Arrival, usize), Fault>
         ensures answer { result ≡ answer_of (take_payload (hub_model S.meaning self.old) payload.now) }
         ensures after { hub_model S.meaning self.new ≡ hub_after (hub_model S.meaning self.old) (take_payload (hub_model S.meaning self.old) payload.now) }
@@ -147,14 +135,17 @@ impl<S: ActorStore> Hub<S> {
         if words.project != self.site.project {
             return Err(Fault::Frame(FrameFault::Project, 8));
         }
-        let Some(switch) = self.find(words.switch) else {
-            return Err(Fault::Frame(FrameFault::Switch, 12));
-        };
-        let awaited = switch.numbers().awaited;
+        let switch = self
+            .find(words.switch)
+            .ok_or(Fault::Frame(FrameFault::Switch, 12))?;
         let survey = check_messages(switch, payload)?;
-        if words.number == 0 {
-            return self.take_event(words.switch, payload, survey);
+        match words.sort() {
+            Sort::Event => self.take_event(words.switch, payload, survey),
+            Sort::Answer(number) if number == switch.numbers().awaited => {
+                self.change(words.switch, |switch| switch.answer());
+                Ok((Arrival::Answer, survey.understood))
+            }
+            Sort::Answer(_) => Ok((Arrival::Stale, survey.understood)),
         }
-        Ok(self.take_answer(words.switch, words.number == awaited, survey.understood))
     }
 }
