@@ -12,22 +12,6 @@ module _ (m : Known) (xs : List ℕ) (i : ℕ) (inv : entry_fault m (take i xs) 
   pub entries_end : length xs ≤ i → entry_fault m [] 0 xs ≡ None
   entries_end h = sym inv ∙ at_drop_all (entry_fault m (take i xs) i) xs i h
 
-  module _ (h : i < length xs) where
-    abbrev unfit : Bool
-    unfit = eqb (get_or xs i 0) 0 || lists (take i xs) (get_or xs i 0)
-
-    step : entry_fault m [] 0 xs ≡ cond unfit (Some (Store ListEntry i)) (cond (is_some (m (get_or xs i 0))) (entry_fault m (take i xs ++ get_or xs i 0 ∷ []) (i + 1) (drop (i + 1) xs)) (Some (Store UnknownActor i)))
-    step = sym inv ∙ at_drop_more (entry_fault m (take i xs) i) xs i 0 h
-
-    pub entry_unfit : unfit ≡ true → entry_fault m [] 0 xs ≡ Some (Store ListEntry i)
-    entry_unfit e = step ∙ cond-true _ _ _ e
-
-    pub entry_unknown : unfit ≡ false → is_some (m (get_or xs i 0)) ≡ false → entry_fault m [] 0 xs ≡ Some (Store UnknownActor i)
-    entry_unknown e k = step ∙ cond-false _ _ _ e ∙ cond-false _ _ _ k
-
-    pub entry_passes : unfit ≡ false → is_some (m (get_or xs i 0)) ≡ true → entry_fault m (take (i + 1) xs) (i + 1) (drop (i + 1) xs) ≡ entry_fault m [] 0 xs
-    entry_passes e k = ap (λ (p : List ℕ). entry_fault m p (i + 1) (drop (i + 1) xs)) (take_more xs i 0 h) ∙ sym (step ∙ cond-false _ _ _ e ∙ cond-true _ _ _ k)
-
 -- a list without a fault has no zero entry
 pub entries_named : (m : Known) (before : List ℕ) (i : ℕ) (xs : List ℕ) → entry_fault m before i xs ≡ None → lists xs 0 ≡ false
 entries_named m before i [] e = refl

@@ -21,6 +21,7 @@ use Rattle.switch.specs.Items.{all_named}
 use Rattle.model.specs.Composing.{actor_records, item_records, outstanding_actors, records_for}
 use Rattle.store.specs.Meaning.{Known}
 use Rattle.model.specs.declared.mark.Mark.{Mark}
+use Rattle.model.specs.declared.mark.Mark.TheVariants.{Settled}
 use Rattle.model.specs.Models.{SwitchModel}
 use Rattle.hub.specs.Compositions.{packet_length}
 use Rattle.hub.specs.Writing.{Began, Finished, Wrote}
@@ -105,6 +106,10 @@ one_item st x = ways (is_outstanding x.mark)
 pub one_actor : (x : Item) → outstanding_actors (x ∷ []) ≡ cond (is_outstanding x.mark) 1 0
 unfolding outstanding_actors
 one_actor x = refl
+
+-- what stands in for an item past the end
+abbrev pub blank_item : Item
+blank_item = record { actor = 0; mark = Settled }
 
 module _ (xs : List Item) (i : ℕ) (d : Item) (h : i < length xs) where
   pub items_more : (st : Known) → item_records st (take (i + 1) xs) ≡ item_records st (take i xs) ++ cond (is_outstanding (get_or xs i d).mark) (actor_records st (get_or xs i d).actor) []

@@ -1,17 +1,13 @@
--- The hub in memory, as the rules see it: its enrolled switches and what its store means, and nothing of the room behind them.
-use Rattle.std.specs.Prelude.{List, map, take, Ok, Err, Result}
+-- The hub in memory, as the rules see it: its site, its enrolled switches, and what its store means.
+use Rattle.std.specs.Prelude.{Ok, Err, Result}
 use Rattle.fault.specs.declared.Fault.{Fault}
-use Rattle.model.specs.Models.{HubModel, SwitchModel}
+use Rattle.model.specs.Models.{HubModel}
 use Rattle.store.specs.declared.meaning.ActorStore.{Ghosts}
 use Rattle.store.specs.Meaning.{Known}
-use Rattle.switch.specs.Memory.{switch_model}
 use Rattle.hub.specs.declared.memory.Hub.{Hub}
 
-abbrev pub enrolled_in : {S : Type 0} {store : Ghosts S} → Hub S store → List SwitchModel
-enrolled_in h = map switch_model (take h.count h.switches)
-
 abbrev pub hub_model : {S : Type 0} {store : Ghosts S} → (S → Known) → Hub S store → HubModel
-hub_model meaning h = record { site = h.site; switches = enrolled_in h; store = meaning h.store }
+hub_model meaning h = record { site = h.site; switches = h.switches.items; store = meaning h.store }
 
 -- an opening's answer by what it means: a hub's model, or the fault and the store that comes back
 abbrev pub seen : {S : Type 0} {store : Ghosts S} → (S → Known) → Result (Hub S store) (Fault × S) → Result HubModel (Fault × S)

@@ -2,17 +2,16 @@
 ghost use Rattle.std.specs.Prelude.{◌≡◌, Some};
 ghost use Rattle.model.specs.Composing.{compose as compose_step, compose_for, composed_bytes, packet_over, words_for};
 ghost use Rattle.model.specs.Models.{hub_after};
-ghost use Rattle.switch.specs.Memory.{switch_model};
 ghost use Rattle.hub.specs.Compositions.{composition, packet_length};
 ghost use Rattle.hub.specs.Memory.{hub_model};
 
 use crate::memory::Hub;
 use crate::slip::Slip;
 use crate::writing::write_packet;
-use fault::{CallFault, Fault, FrameFault};
+use fault::{CallFault, Fault};
 use packet::{DESCRIPTOR_LEN, Descriptor};
 use store::meaning::ActorStore;
-use switch::{Switch, SwitchStep};
+use switch::Switch;
 
 // The bytes of both values of an actor, and of a control word, with their heads.
 const ACTOR_BYTES: usize = 12;
@@ -28,7 +27,7 @@ pub struct Composed {
 
 // How long the packet for a switch is.
 fn packet_length(switch: &Switch) -> usize
-    ensures { result ≡ packet_length (switch_model switch.now) }
+    ensures { result ≡ packet_length switch.now }
 {
     let control = if switch.control_mark().is_outstanding() {
         CONTROL_BYTES
@@ -41,7 +40,7 @@ fn packet_length(switch: &Switch) -> usize
 impl<S: ActorStore> Hub<S> {
     // The words at the head of a packet for a switch.
     fn words_for(&self, switch: &Switch) -> Descriptor
-        ensures { result ≡ words_for (hub_model S.ActorStore.meaning self.now) (switch_model switch.now) }
+        ensures { result ≡ words_for (hub_model S.meaning self.now) switch.now }
     {
         Descriptor {
             version: self.site.version,
@@ -55,8 +54,8 @@ impl<S: ActorStore> Hub<S> {
 
     // Writes the packet for a switch, if its slip is in, something is outstanding and the buffer has room.
     fn write_for(&self, id: u16, switch: &Switch, buf: &mut [u8]) -> Result<Composed, Fault>
-        ensures answer { result ≡ composition id (compose_for (hub_model S.ActorStore.meaning self.now) id buf.old (switch_model switch.now)) }
-        ensures bytes { buf.new ≡ packet_over (hub_model S.ActorStore.meaning self.now) (Some (switch_model switch.now)) buf.old (compose_for (hub_model S.ActorStore.meaning self.now) id buf.old (switch_model switch.now)) }
+        ensures answer { result ≡ composition id (compose_for (hub_model S.meaning self.now) id buf.old switch.now) }
+        ensures bytes { buf.new ≡ packet_over (hub_model S.meaning self.now) (Some switch.now) buf.old (compose_for (hub_model S.meaning self.now) id buf.old switch.now) }
     {
         let number = switch.numbers().next;
         if switch.numbers().slip.is_some() {
@@ -79,15 +78,12 @@ impl<S: ActorStore> Hub<S> {
 
     // Composes the packet with all that is outstanding for a switch. The slip is handed in once the packet was sent or withheld.
     pub fn compose(&mut self, id: u16, buf: &mut [u8]) -> Result<Composed, Fault>
-        ensures answer { result ≡ composition id (compose_step (hub_model S.ActorStore.meaning self.old) id buf.old) }
-        ensures after { hub_model S.ActorStore.meaning self.new ≡ hub_after (hub_model S.ActorStore.meaning self.old) (compose_step (hub_model S.ActorStore.meaning self.old) id buf.old) }
-        ensures bytes { buf.new ≡ composed_bytes (hub_model S.ActorStore.meaning self.old) id buf.old }
+        ensures answer { result ≡ composition id (compose_step (hub_model S.meaning self.old) id buf.old) }
+        ensures after { hub_model S.meaning self.new ≡ hub_after (hub_model S.meaning self.old) (compose_step (hub_model S.meaning self.old) id buf.old) }
+        ensures bytes { buf.new ≡ composed_bytes (hub_model S.meaning self.old) id buf.old }
     {
-        let composed = match self.find(id) {
-            Some(switch) => self.write_for(id, switch, buf)?,
-            None => return Err(Fault::Frame(FrameFault::Switch, 0)),
-        };
-        self.apply(id, SwitchStep::Compose);
+        let composed = self.write_for(id, self.enrolled(id)?, buf)?;
+        self.change(id, |switch| switch.compose());
         Ok(composed)
     }
 }

@@ -3,10 +3,10 @@ ghost use Rattle.std.specs.Prelude.{◌≡◌, ◌<◌, ◌≤◌, false, ◌||�
 ghost use Rattle.model.specs.Models.{answer_of, hub_after, switches_of, with_switches};
 ghost use Rattle.model.specs.Opening.{enrol as enrol_step, enrol_fault, entry_fault, new_switch, unless};
 ghost use Rattle.store.specs.Lists.{lists};
+ghost use Rattle.arrayvec.specs.ArrayVec.{array_vec_len};
 ghost use Rattle.hub.specs.Memory.{hub_model};
 
 use crate::memory::Hub;
-use crate::opening::MOST_SWITCHES;
 use fault::{CallFault, Fault, StoreFault};
 use store::meaning::ActorStore;
 use switch::{MOST_ACTORS, Switch};
@@ -19,22 +19,21 @@ fn is_unfit(before: &[u16], actor: u16) -> bool
 }
 
 fn is_known<S: ActorStore>(store: &S, actor: u16) -> bool
-    ensures { result ≡ is_some (S.ActorStore.meaning store.now actor) }
+    ensures { result ≡ is_some (S.meaning store.now actor) }
 {
     store.read(actor).is_ok()
 }
 
 // Checks entry by entry that each stands there once and is known to the store.
 fn check_entries<S: ActorStore>(store: &S, actors: &[u16]) -> Result<(), Fault>
-    ensures answer { result ≡ unless (entry_fault (S.ActorStore.meaning store.now) [] 0 actors.now) tt }
+    ensures answer { result ≡ unless (entry_fault (S.meaning store.now) [] 0 actors.now) tt }
     ensures named { OnOk result (lists actors.now 0 ≡ false) }
 {
-    for i in 0..actors.len() {
-        let actor = actors[i];
-        if is_unfit(&actors[0..i], actor) {
+    for (i, actor) in actors.iter().enumerate() {
+        if is_unfit(&actors[..i], *actor) {
             return Err(Fault::Store(StoreFault::ListEntry, i));
         }
-        if !is_known(store, actor) {
+        if !is_known(store, *actor) {
             return Err(Fault::Store(StoreFault::UnknownActor, i));
         }
     }
@@ -42,22 +41,17 @@ fn check_entries<S: ActorStore>(store: &S, actors: &[u16]) -> Result<(), Fault>
 }
 
 impl<S: ActorStore> Hub<S> {
-    fn is_full(&self) -> bool
-        ensures answer { result ≡ nat_le 32 (length (switches_of (hub_model S.ActorStore.meaning self.now))) }
-        ensures count { result ≡ nat_le 32 self.now.count }
-    {
-        self.count >= MOST_SWITCHES
-    }
-
     // Whether such a switch may be enrolled.
     fn may_enrol(&self, id: u16, actors: &[u16]) -> Result<(), Fault>
-        ensures answer { result ≡ unless (enrol_fault (hub_model S.ActorStore.meaning self.now) id actors.now) tt }
-        ensures room { OnOk result ((self.now.count < 32) × (length actors.now ≤ 64) × (lists actors.now 0 ≡ false)) }
+        ensures answer { result ≡ unless (enrol_fault (hub_model S.meaning self.now) id actors.now) tt }
+        ensures room { OnOk result (array_vec_len self.now.switches < 32) }
+        ensures few { OnOk result (length actors.now ≤ 64) }
+        ensures named { OnOk result (lists actors.now 0 ≡ false) }
     {
         if id == 0 || self.find(id).is_some() {
             return Err(Fault::Call(CallFault::SwitchTaken, 0));
         }
-        if self.is_full() {
+        if self.switches.is_full() {
             return Err(Fault::Call(CallFault::HubFull, 0));
         }
         if actors.is_empty() || actors.len() > MOST_ACTORS {
@@ -68,20 +62,20 @@ impl<S: ActorStore> Hub<S> {
 
     // Puts a switch behind the others.
     fn add(&mut self, id: u16, actors: &[u16])
-        requires { (self.old.count < 32) × ((length actors.now ≤ 64) × (lists actors.now 0 ≡ false)) }
-        ensures { hub_model S.ActorStore.meaning self.new ≡ with_switches (switches_of (hub_model S.ActorStore.meaning self.old) ++ new_switch id actors.now ∷ []) (hub_model S.ActorStore.meaning self.old) }
+        requires room { array_vec_len self.old.switches < 32 }
+        requires few { length actors.now ≤ 64 }
+        requires named { lists actors.now 0 ≡ false }
+        ensures { hub_model S.meaning self.new ≡ with_switches (switches_of (hub_model S.meaning self.old) ++ new_switch id actors.now ∷ []) (hub_model S.meaning self.old) }
     {
         if let Some(switch) = Switch::new(id, actors) {
-            let count = self.count;
-            self.switches[count] = switch;
-            self.count = count + 1;
+            self.switches.push(switch);
         }
     }
 
     // Enrols a switch with the actors that it lists, every item due.
     pub fn enrol(&mut self, id: u16, actors: &[u16]) -> Result<(), Fault>
-        ensures answer { result ≡ answer_of (enrol_step (hub_model S.ActorStore.meaning self.old) id actors.now) }
-        ensures after { hub_model S.ActorStore.meaning self.new ≡ hub_after (hub_model S.ActorStore.meaning self.old) (enrol_step (hub_model S.ActorStore.meaning self.old) id actors.now) }
+        ensures answer { result ≡ answer_of (enrol_step (hub_model S.meaning self.old) id actors.now) }
+        ensures after { hub_model S.meaning self.new ≡ hub_after (hub_model S.meaning self.old) (enrol_step (hub_model S.meaning self.old) id actors.now) }
     {
         self.may_enrol(id, actors)?;
         self.add(id, actors);

@@ -1,19 +1,20 @@
 // The hub in fixed memory.
-ghost use Rattle.std.specs.Prelude.{◌≡◌, ◌≤◌, length};
+ghost use Rattle.std.specs.Prelude.{◌≡◌};
 ghost use Rattle.packet.specs.Words.{major};
 
+use arrayvec::ArrayVec;
 use model::Site;
 use store::meaning::ActorStore;
 use switch::Switch;
 
-// The first `count` switches are enrolled, in that order.
+// How many switches a hub serves at most.
+const MOST_SWITCHES: usize = 32;
+
+// The switches lie in order of enrolment.
 #[derive(Drop)]
 pub struct Hub<S: ActorStore> {
     pub(crate) site: Site,
-    pub(crate) switches: [Switch; 32],
-    pub(crate) count: usize,
+    pub(crate) switches: ArrayVec<Switch, MOST_SWITCHES>,
     pub(crate) store: S,
-    ghost long: { length switches ≡ 32 },
-    ghost few: { count ≤ 32 },
     ghost ours: { major site.version ≡ 2 },
 }

@@ -5,20 +5,17 @@ ghost use Rattle.law.specs.Law.{TruthfulSwitches};
 ghost use Rattle.hub.specs.Memory.{IfOpened, handed_back, seen};
 
 use crate::memory::Hub;
+use arrayvec::ArrayVec;
 use fault::{Fault, FrameFault};
 use model::Site;
 use packet::MAJOR_VERSION;
 use store::meaning::ActorStore;
-use switch::Switch;
-
-// How many switches a hub serves at most.
-pub const MOST_SWITCHES: usize = 32;
 
 impl<S: ActorStore> Hub<S> {
     // A hub with no switch over the store; the store comes back where the version is not ours.
     pub fn open(store: S, site: Site) -> Result<Hub<S>, (Fault, S)>
-        ensures answer { seen S.ActorStore.meaning result ≡ handed_back store (opened site (S.ActorStore.meaning store)) }
-        ensures law { IfOpened (TruthfulSwitches site (S.ActorStore.meaning store)) result }
+        ensures answer { seen S.meaning result ≡ handed_back store (opened site (S.meaning store)) }
+        ensures law { IfOpened (TruthfulSwitches site (S.meaning store)) result }
     {
         let [_, major] = site.version.to_le_bytes();
         if major != MAJOR_VERSION {
@@ -26,8 +23,7 @@ impl<S: ActorStore> Hub<S> {
         }
         Ok(Hub {
             site,
-            switches: [Switch::blank(); MOST_SWITCHES],
-            count: 0,
+            switches: ArrayVec::new(),
             store,
         })
     }

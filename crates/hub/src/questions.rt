@@ -4,71 +4,52 @@ ghost use Rattle.model.specs.Questions.{actor_mark, control_mark, flags_of, key_
 ghost use Rattle.hub.specs.Memory.{hub_model};
 
 use crate::memory::Hub;
-use fault::{ActorFault, Fault, FrameFault};
+use fault::{ActorFault, Fault};
 use model::{KeyPress, Mark};
 use store::meaning::ActorStore;
 
 impl<S: ActorStore> Hub<S> {
     // How a switch stands to an actor that it lists.
     pub fn actor_mark(&self, id: u16, actor: u16) -> Result<Mark, Fault>
-        ensures { result ≡ actor_mark (hub_model S.ActorStore.meaning self.now) id actor }
+        ensures { result ≡ actor_mark (hub_model S.meaning self.now) id actor }
     {
-        match self.find(id) {
-            None => Err(Fault::Frame(FrameFault::Switch, 0)),
-            Some(switch) => match switch.mark_of(actor) {
-                None => Err(Fault::Actor(ActorFault::NotListed, 0)),
-                Some(mark) => Ok(mark),
-            },
-        }
+        self.enrolled(id)?
+            .mark_of(actor)
+            .ok_or(Fault::Actor(ActorFault::NotListed, 0))
     }
 
     // How a switch stands to its control word.
     pub fn control_mark(&self, id: u16) -> Result<Mark, Fault>
-        ensures { result ≡ control_mark (hub_model S.ActorStore.meaning self.now) id }
+        ensures { result ≡ control_mark (hub_model S.meaning self.now) id }
     {
-        match self.find(id) {
-            None => Err(Fault::Frame(FrameFault::Switch, 0)),
-            Some(switch) => Ok(switch.control_mark()),
-        }
+        Ok(self.enrolled(id)?.control_mark())
     }
 
     // The flags that a switch last reported.
     pub fn flags(&self, id: u16) -> Result<u32, Fault>
-        ensures { result ≡ flags_of (hub_model S.ActorStore.meaning self.now) id }
+        ensures { result ≡ flags_of (hub_model S.meaning self.now) id }
     {
-        match self.find(id) {
-            None => Err(Fault::Frame(FrameFault::Switch, 0)),
-            Some(switch) => Ok(switch.report().flags),
-        }
+        Ok(self.enrolled(id)?.report().flags)
     }
 
     // The key last pressed at a switch.
     pub fn latest_key(&self, id: u16) -> Result<Option<KeyPress>, Fault>
-        ensures { result ≡ key_of (hub_model S.ActorStore.meaning self.now) id }
+        ensures { result ≡ key_of (hub_model S.meaning self.now) id }
     {
-        match self.find(id) {
-            None => Err(Fault::Frame(FrameFault::Switch, 0)),
-            Some(switch) => Ok(switch.report().key),
-        }
+        Ok(self.enrolled(id)?.report().key)
     }
 
     // The temperature that a switch last read, in tenths of a degree.
     pub fn reading(&self, id: u16) -> Result<Option<i16>, Fault>
-        ensures { result ≡ reading_at (hub_model S.ActorStore.meaning self.now) id }
+        ensures { result ≡ reading_at (hub_model S.meaning self.now) id }
     {
-        match self.find(id) {
-            None => Err(Fault::Frame(FrameFault::Switch, 0)),
-            Some(switch) => Ok(switch.report().reading),
-        }
+        Ok(self.enrolled(id)?.report().reading)
     }
 
     // Whether a switch has any item outstanding.
     pub fn has_outstanding(&self, id: u16) -> Result<bool, Fault>
-        ensures { result ≡ outstanding_at (hub_model S.ActorStore.meaning self.now) id }
+        ensures { result ≡ outstanding_at (hub_model S.meaning self.now) id }
     {
-        match self.find(id) {
-            None => Err(Fault::Frame(FrameFault::Switch, 0)),
-            Some(switch) => Ok(switch.has_outstanding()),
-        }
+        Ok(self.enrolled(id)?.has_outstanding())
     }
 }

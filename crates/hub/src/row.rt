@@ -1,36 +1,45 @@
-// The hub's switches: looking one up, and moving one or all of them.
-ghost use Rattle.std.specs.Prelude.{◌≡◌, map};
+// The hub's switches: looking one up, and changing one or all of them.
+ghost use Rattle.std.specs.Prelude.{◌≡◌, map, Some, None, IfOk, IfErr, OnErr};
+ghost use Rattle.std.specs.Fn.{FnOnceReturnsAtMut};
 ghost use Rattle.std.specs.Option.{option_map};
-ghost use Rattle.model.specs.Models.{change_switch, find_switch, switches_of, touched, with_switches};
-ghost use Rattle.switch.specs.Memory.{switch_model};
-ghost use Rattle.switch.specs.Steps.{stepped};
+ghost use Rattle.model.specs.Models.{SwitchModel, change_switch, find_switch, switches_of, touched, with_switches};
+ghost use Rattle.switch.specs.Changes.{Makes};
 ghost use Rattle.hub.specs.Memory.{hub_model};
 
 use crate::memory::Hub;
+use fault::{Fault, FrameFault};
 use store::meaning::ActorStore;
-use switch::{Switch, SwitchStep};
+use switch::Switch;
 
 impl<S: ActorStore> Hub<S> {
     // The enrolled switch with this ID.
     pub(crate) fn find(&self, id: u16) -> Option<&Switch>
-        ensures { option_map (λ s. switch_model s.now) result ≡ find_switch id (switches_of (hub_model S.ActorStore.meaning self.now)) }
+        ensures { option_map (λ s. s.now) result ≡ find_switch id (switches_of (hub_model S.meaning self.now)) }
     {
-        switch::find(&self.switches[0..self.count], id)
+        switch::find(&self.switches, id)
+    }
+
+    // The enrolled switch with this ID, or the refusal of one that is not enrolled.
+    pub(crate) fn enrolled(&self, id: u16) -> Result<&Switch, Fault>
+        ensures found { IfOk result (λ s. find_switch id (switches_of (hub_model S.meaning self.now)) ≡ Some s.now) }
+        ensures missing { OnErr result (find_switch id (switches_of (hub_model S.meaning self.now)) ≡ None) }
+        ensures refused { IfErr result (λ e. e ≡ Fault.Frame FrameFault.Switch 0) }
+    {
+        self.find(id).ok_or(Fault::Frame(FrameFault::Switch, 0))
     }
 
     // An actor becomes due at every switch that lists it.
     pub(crate) fn touch(&mut self, actor: u16)
-        ensures { hub_model S.ActorStore.meaning self.new ≡ with_switches (map (touched actor) (switches_of (hub_model S.ActorStore.meaning self.old))) (hub_model S.ActorStore.meaning self.old) }
+        ensures { hub_model S.meaning self.new ≡ with_switches (map (touched actor) (switches_of (hub_model S.meaning self.old))) (hub_model S.meaning self.old) }
     {
-        let count = self.count;
-        switch::touch_all(&mut self.switches[0..count], actor);
+        switch::touch_all(self.switches.as_mut_slice(), actor);
     }
 
-    // Moves the switch with this ID, if it is enrolled.
-    pub(crate) fn apply(&mut self, id: u16, step: SwitchStep)
-        ensures { hub_model S.ActorStore.meaning self.new ≡ change_switch id (stepped step) (hub_model S.ActorStore.meaning self.old) }
+    // Changes the switch with this ID, if it is enrolled.
+    pub(crate) fn change<F: FnOnce(&mut Switch)>(&mut self, id: u16, change: F)
+        requires callable { F.IsAlwaysCallable change }
+        ensures { (f : SwitchModel → SwitchModel) → Makes f (FnOnceReturnsAtMut F.FnOnce change) → hub_model S.meaning self.new ≡ change_switch id f (hub_model S.meaning self.old) }
     {
-        let count = self.count;
-        switch::apply_at(&mut self.switches[0..count], id, step);
+        switch::change_at(self.switches.as_mut_slice(), id, change);
     }
 }

@@ -6,10 +6,9 @@ ghost use Rattle.store.specs.declared.meaning.Half.TheVariants.{Actual, Target};
 ghost use Rattle.hub.specs.Memory.{hub_model};
 
 use crate::memory::Hub;
-use fault::{CallFault, Fault, FrameFault};
+use fault::{CallFault, Fault};
 use kind::CONTROL_BITS;
 use store::meaning::{ActorStore, Half};
-use switch::SwitchStep;
 
 // The bit that a control word must have.
 const CONTROL_MUST: u32 = 1 << 8;
@@ -23,8 +22,8 @@ fn is_lawful_control(word: u32) -> bool
 impl<S: ActorStore> Hub<S> {
     // Puts a value, and makes its actor due at every switch that lists it.
     pub(crate) fn set_value(&mut self, actor: u16, half: Half, value: i16) -> Result<(), Fault>
-        ensures answer { result ≡ answer_of (set_value (hub_model S.ActorStore.meaning self.old) actor half value) }
-        ensures after { hub_model S.ActorStore.meaning self.new ≡ hub_after (hub_model S.ActorStore.meaning self.old) (set_value (hub_model S.ActorStore.meaning self.old) actor half value) }
+        ensures answer { result ≡ answer_of (set_value (hub_model S.meaning self.old) actor half value) }
+        ensures after { hub_model S.meaning self.new ≡ hub_after (hub_model S.meaning self.old) (set_value (hub_model S.meaning self.old) actor half value) }
     {
         self.store.put(actor, half, value)?;
         self.touch(actor);
@@ -33,32 +32,30 @@ impl<S: ActorStore> Hub<S> {
 
     // Sets the actual value of an actor.
     pub fn set_actual(&mut self, actor: u16, value: i16) -> Result<(), Fault>
-        ensures answer { result ≡ answer_of (set_value (hub_model S.ActorStore.meaning self.old) actor Actual value) }
-        ensures after { hub_model S.ActorStore.meaning self.new ≡ hub_after (hub_model S.ActorStore.meaning self.old) (set_value (hub_model S.ActorStore.meaning self.old) actor Actual value) }
+        ensures answer { result ≡ answer_of (set_value (hub_model S.meaning self.old) actor Actual value) }
+        ensures after { hub_model S.meaning self.new ≡ hub_after (hub_model S.meaning self.old) (set_value (hub_model S.meaning self.old) actor Actual value) }
     {
         self.set_value(actor, Half::Actual, value)
     }
 
     // Sets the target of an actor.
     pub fn set_target(&mut self, actor: u16, value: i16) -> Result<(), Fault>
-        ensures answer { result ≡ answer_of (set_value (hub_model S.ActorStore.meaning self.old) actor Target value) }
-        ensures after { hub_model S.ActorStore.meaning self.new ≡ hub_after (hub_model S.ActorStore.meaning self.old) (set_value (hub_model S.ActorStore.meaning self.old) actor Target value) }
+        ensures answer { result ≡ answer_of (set_value (hub_model S.meaning self.old) actor Target value) }
+        ensures after { hub_model S.meaning self.new ≡ hub_after (hub_model S.meaning self.old) (set_value (hub_model S.meaning self.old) actor Target value) }
     {
         self.set_value(actor, Half::Target, value)
     }
 
     // Sets the control word of a switch.
     pub fn set_control(&mut self, id: u16, word: u32) -> Result<(), Fault>
-        ensures answer { result ≡ answer_of (set_control (hub_model S.ActorStore.meaning self.old) id word) }
-        ensures after { hub_model S.ActorStore.meaning self.new ≡ hub_after (hub_model S.ActorStore.meaning self.old) (set_control (hub_model S.ActorStore.meaning self.old) id word) }
+        ensures answer { result ≡ answer_of (set_control (hub_model S.meaning self.old) id word) }
+        ensures after { hub_model S.meaning self.new ≡ hub_after (hub_model S.meaning self.old) (set_control (hub_model S.meaning self.old) id word) }
     {
-        if self.find(id).is_none() {
-            return Err(Fault::Frame(FrameFault::Switch, 0));
-        }
+        self.enrolled(id)?;
         if !is_lawful_control(word) {
             return Err(Fault::Call(CallFault::ControlWord, 0));
         }
-        self.apply(id, SwitchStep::SetControl(word));
+        self.change(id, |switch| switch.set_control(word));
         Ok(())
     }
 }

@@ -23,11 +23,11 @@ impl Slip {
         self.number
     }
 
-    // Takes the slip apart, which spends it.
-    pub(crate) fn spend(self) {
-        let Slip {
-            switch: _,
-            number: _,
-        } = self;
+    // Takes the slip apart, which spends it, and tells its switch.
+    pub(crate) fn spend(self) -> u16
+        ensures { result ≡ self.switch }
+    {
+        let Slip { switch, number: _ } = self;
+        switch
     }
 }

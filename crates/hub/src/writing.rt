@@ -8,7 +8,6 @@ ghost use Rattle.packet.specs.Words.{major};
 ghost use Rattle.model.specs.Composing.{actor_records, item_records, outstanding_actors, records_for, values_of};
 ghost use Rattle.model.specs.Marks.{is_outstanding};
 ghost use Rattle.switch.specs.Items.{all_named};
-ghost use Rattle.switch.specs.Memory.{switch_model};
 ghost use Rattle.hub.specs.Compositions.{packet_length};
 ghost use Rattle.hub.specs.Writing.{Began, Finished, Wrote};
 
@@ -30,7 +29,7 @@ fn add(draft: Draft, buf: &mut [u8], record: Record) -> Draft
 
 // Both values of an actor.
 fn values<S: ActorStore>(store: &S, actor: u16) -> (i16, i16)
-    ensures answer { result ≡ values_of (S.ActorStore.meaning store.now actor) }
+    ensures answer { result ≡ values_of (S.meaning store.now actor) }
     ensures fits { FitsSigned w16 result.0 × FitsSigned w16 result.1 }
 {
     match store.read(actor) {
@@ -42,7 +41,7 @@ fn values<S: ActorStore>(store: &S, actor: u16) -> (i16, i16)
 // Adds what an actor has to be told: RealValue, then EditValue.
 fn write_actor<S: ActorStore>(store: &S, actor: u16, draft: Draft, buf: &mut [u8]) -> Draft
     requires { ((actor == 0) ≡ false) × ((size_of draft + 12 ≤ length buf.old) × (size_of draft + 12 ≤ 1472)) }
-    ensures { Wrote draft buf.old (actor_records (S.ActorStore.meaning store.now) actor) result buf.new }
+    ensures { Wrote draft buf.old (actor_records (S.meaning store.now) actor) result buf.new }
 {
     let (actual, target) = values(store, actor);
     let draft = add(draft, buf, Record::RealValue { actor, actual });
@@ -52,7 +51,7 @@ fn write_actor<S: ActorStore>(store: &S, actor: u16, draft: Draft, buf: &mut [u8
 // Adds what the outstanding actors have to be told, in list order.
 fn write_items<S: ActorStore>(store: &S, items: &[Item], mut draft: Draft, buf: &mut [u8]) -> Draft
     requires { (all_named items.now ≡ true) × ((size_of draft + 12 * outstanding_actors items.now ≤ length buf.old) × (size_of draft + 12 * outstanding_actors items.now ≤ 1472)) }
-    ensures { Wrote draft buf.old (item_records (S.ActorStore.meaning store.now) items.now) result buf.new }
+    ensures { Wrote draft buf.old (item_records (S.meaning store.now) items.now) result buf.new }
 {
     for item in items {
         if item.mark.is_outstanding() {
@@ -103,8 +102,8 @@ pub(crate) fn write_packet<S: ActorStore>(
     words: Descriptor,
     buf: &mut [u8],
 )
-    requires { (major words.version ≡ 2) × (packet_length (switch_model switch.now) ≤ length buf.old) }
-    ensures { buf.new ≡ packet_bytes words (records_for (S.ActorStore.meaning store.now) (switch_model switch.now)) ++ drop (packet_length (switch_model switch.now)) buf.old }
+    requires { (major words.version ≡ 2) × (packet_length switch.now ≤ length buf.old) }
+    ensures { buf.new ≡ packet_bytes words (records_for (S.meaning store.now) switch.now) ++ drop (packet_length switch.now) buf.old }
 {
     let draft = begin(buf, words);
     let draft = write_items(store, switch.items(), draft, buf);

@@ -1,4 +1,3 @@
-pub mod Maps
 pub mod Searches
-pub mod Rows
+pub mod Changes
 pub mod Named

@@ -1,42 +1,41 @@
--- A loop that looks through a list for the first element that passes a test, by a function of what is left.
-use Rattle.std.proofs.Common.{◌≡◌, ℕ, ◌+◌, ◌<◌, ◌≤◌, Bool, true, false, cond, ◌||◌, List, [], ◌∷◌, length, get_or, drop, sym, refl, ap, ◌∙◌}
-use Rattle.std.proofs.lemmas.List.{at_drop_all, at_drop_more}
-use Rattle.std.proofs.lemmas.Bool.{cond-false, cond-true}
+-- The rules' own searches are the library's.
+use Rattle.std.proofs.Common.{◌≡◌, ℕ, ◌+◌, suc, Bool, true, false, cond, ◌||◌, List, [], ◌∷◌, Some, None, Option, length, filter, refl, ap, ◌==◌}
+use Rattle.std.specs.List.{find, list_any}
+use Rattle.std.specs.Option.{option_map}
+use Rattle.store.specs.Lists.{lists}
 use Rattle.model.specs.declared.item.Item.{Item}
-use Rattle.model.specs.declared.mark.Mark.TheVariants.{Settled}
+use Rattle.model.specs.declared.mark.Mark.{Mark}
+use Rattle.model.specs.Composing.{outstanding_actors}
 use Rattle.model.specs.Marks.{is_outstanding}
-use Rattle.model.specs.Models.{any_outstanding, is_actor, lists_actor}
+use Rattle.model.specs.Models.{SwitchModel, any_outstanding, find_switch, is_actor, lists_actor, mark_of_actor}
 
--- what stands in for an item past the end
-abbrev pub no_item : Item
-no_item = record { actor = 0; mark = Settled }
+pub stands : (a : ℕ) (list : List ℕ) → list_any (λ x. x == a) list ≡ lists list a
+stands a [] = refl
+stands a (x ∷ list) = ap (λ b. (x == a) || b) (stands a list)
 
-module _ {X Y : Type 0} (F : List X → Y) (p : X → Bool) (v : X → Y) (step : (x : X) (xs : List X) → F (x ∷ xs) ≡ cond (p x) (v x) (F xs))
-    (d : X) (xs : List X) (i : ℕ) (inv : F (drop i xs) ≡ F xs) where
-  pub found_here : i < length xs → p (get_or xs i d) ≡ true → v (get_or xs i d) ≡ F xs
-  found_here h t = sym (cond-true _ _ _ t) ∙ sym (step (get_or xs i d) (drop (i + 1) xs)) ∙ sym (at_drop_more F xs i d h) ∙ inv
+pub listed : (a : ℕ) (items : List Item) → list_any (is_actor a) items ≡ lists_actor a items
+listed a [] = refl
+listed a (x ∷ items) = ap (λ b. is_actor a x || b) (listed a items)
 
-  pub looks_on : i < length xs → p (get_or xs i d) ≡ false → F (drop (i + 1) xs) ≡ F xs
-  looks_on h t = sym (cond-false _ _ _ t) ∙ sym (step (get_or xs i d) (drop (i + 1) xs)) ∙ sym (at_drop_more F xs i d h) ∙ inv
+pub any_of : (items : List Item) → list_any (λ x. is_outstanding x.mark) items ≡ any_outstanding items
+any_of [] = refl
+any_of (x ∷ items) = ap (λ b. is_outstanding x.mark || b) (any_of items)
 
-pub not_found : {X Y : Type 0} (F : List X → Y) (xs : List X) (i : ℕ) → F (drop i xs) ≡ F xs → length xs ≤ i → F [] ≡ F xs
-not_found F xs i inv h = sym (at_drop_all F xs i h) ∙ inv
+pub counted : (items : List Item) → length (filter (λ x. is_outstanding x.mark) items) ≡ outstanding_actors items
+unfolding outstanding_actors
+counted [] = refl
+counted (x ∷ items) = elim (is_outstanding x.mark) as (λ b. length (cond b (x ∷ filter (λ y. is_outstanding y.mark) items) (filter (λ y. is_outstanding y.mark) items)) ≡ cond b (suc (outstanding_actors items)) (outstanding_actors items)) [
+  | true ↦ ap suc (counted items)
+  | false ↦ counted items
+]
 
--- the same of an element that is known by what was read at its place
-module _ {X Y : Type 0} (F : List X → Y) (p : X → Bool) (v : X → Y) (step : (x : X) (xs : List X) → F (x ∷ xs) ≡ cond (p x) (v x) (F xs))
-    (x : X) (xs : List X) (i : ℕ) (inv : F (drop i xs) ≡ F xs) (h : i < length xs) (is : x ≡ get_or xs i x) where
-  pub found_at : p x ≡ true → v x ≡ F xs
-  found_at t = ap v is ∙ found_here F p v step x xs i inv h (ap p (sym is) ∙ t)
+pub marked : (a : ℕ) (items : List Item) → option_map (λ x. x.mark) (find (is_actor a) items) ≡ mark_of_actor a items
+marked a [] = refl
+marked a (x ∷ items) = elim (is_actor a x) as (λ b. option_map {T = Item} {U = Mark} (λ y. y.mark) (cond b (Some x) (find (is_actor a) items)) ≡ cond b (Some x.mark) (mark_of_actor a items)) [
+  | true ↦ refl
+  | false ↦ marked a items
+]
 
-  pub looks_past : p x ≡ false → F (drop (i + 1) xs) ≡ F xs
-  looks_past t = looks_on F p v step x xs i inv h (ap p (sym is) ∙ t)
-
-pub or_as_test : (b c : Bool) → (b || c) ≡ cond b true c
-or_as_test true c = refl
-or_as_test false c = refl
-
-pub lists_step : (a : ℕ) (x : Item) (xs : List Item) → lists_actor a (x ∷ xs) ≡ cond (is_actor a x) true (lists_actor a xs)
-lists_step a x xs = or_as_test (is_actor a x) (lists_actor a xs)
-
-pub outstanding_step : (x : Item) (xs : List Item) → any_outstanding (x ∷ xs) ≡ cond (is_outstanding x.mark) true (any_outstanding xs)
-outstanding_step x xs = or_as_test (is_outstanding x.mark) (any_outstanding xs)
+pub found : (id : ℕ) (ms : List SwitchModel) → find (λ m. m.id == id) ms ≡ find_switch id ms
+found id [] = refl
+found id (m ∷ ms) = ap (λ r. cond (m.id == id) (Some m) r) (found id ms)

@@ -1,4 +1,2 @@
 pub mod Items
-pub mod Memory
-pub mod Steps
-pub mod Places
+pub mod Changes

@@ -1,15 +1,13 @@
 // What a switch can be asked, and how one begins.
 ghost use Rattle.std.specs.Prelude.{◌≡◌, ◌≤◌, true, false, ◌||◌, [], length, if◌then◌else◌, Some, None, nat_lt};
-ghost use Rattle.std.specs.Option.{option_map};
 ghost use Rattle.model.specs.Composing.{has_outstanding, outstanding_actors};
 ghost use Rattle.model.specs.Models.{lists_actor, mark_of_actor};
 ghost use Rattle.model.specs.Opening.{new_switch};
 ghost use Rattle.store.specs.Lists.{lists};
 ghost use Rattle.switch.specs.Items.{all_named};
-ghost use Rattle.switch.specs.Memory.{items_in, switch_model};
 
-use crate::items;
 use crate::memory::Switch;
+use arrayvec::ArrayVec;
 use model::{Item, Mark, Numbers, Report};
 
 // How many actors a switch lists at most.
@@ -22,33 +20,25 @@ const FIRST_CONTROL: u32 = 0x0000_0130;
 pub fn stands_in(list: &[u16], actor: u16) -> bool
     ensures { result ≡ lists list.now actor }
 {
-    for entry in list {
-        if *entry == actor {
-            return true;
-        }
-    }
-    false
+    list.contains(&actor)
 }
 
 // A switch as it is enrolled, with every item due.
 fn enrolled(id: u16, actors: &[u16]) -> Switch
-    requires { (length actors.now ≤ 64) × (lists actors.now 0 ≡ false) }
-    ensures { switch_model result ≡ new_switch id actors.now }
+    requires few { length actors.now ≤ 64 }
+    requires named { lists actors.now 0 ≡ false }
+    ensures { result ≡ new_switch id actors.now }
 {
-    let mut items = [Item {
-        actor: 0,
-        mark: Mark::Settled,
-    }; MOST_ACTORS];
-    for i in 0..actors.len() {
-        items[i] = Item {
-            actor: actors[i],
+    let mut items = ArrayVec::new();
+    for actor in actors {
+        items.push(Item {
+            actor: *actor,
             mark: Mark::Due,
-        };
+        });
     }
     Switch {
         id,
         items,
-        count: actors.len(),
         control: FIRST_CONTROL,
         mark: Mark::Due,
         numbers: Numbers {
@@ -64,17 +54,25 @@ fn enrolled(id: u16, actors: &[u16]) -> Switch
     }
 }
 
+impl Default for Switch {
+    ghost is_default = { λ s. s ≡ new_switch 0 [] };
+
+    fn default() -> Switch {
+        Switch::blank()
+    }
+}
+
 impl Switch {
     // A switch that lists nothing, for the room that no switch has taken yet.
     pub fn blank() -> Switch
-        ensures { switch_model result ≡ new_switch 0 [] }
+        ensures { result ≡ new_switch 0 [] }
     {
         enrolled(0, &[])
     }
 
     // A switch with this list, if it has room for it and every entry names an actor.
     pub fn new(id: u16, actors: &[u16]) -> Option<Switch>
-        ensures { option_map switch_model result ≡ (if nat_lt 64 (length actors.now) || lists actors.now 0 then None else Some (new_switch id actors.now)) }
+        ensures { result ≡ (if nat_lt 64 (length actors.now) || lists actors.now 0 then None else Some (new_switch id actors.now)) }
     {
         if actors.len() > MOST_ACTORS || stands_in(actors, 0) {
             return None;
@@ -82,70 +80,74 @@ impl Switch {
         Some(enrolled(id, actors))
     }
 
-    // The items in use, in list order.
+    // The items, in list order.
     pub fn items(&self) -> &[Item]
-        ensures items { result.now ≡ (switch_model self.now).items }
+        ensures items { result.now ≡ self.now.items }
         ensures named { all_named result.now ≡ true }
         ensures few { length result.now ≤ 64 }
     {
-        &self.items[0..self.count]
+        self.items.as_slice()
     }
 
     pub fn control(&self) -> u32
-        ensures { result ≡ (switch_model self.now).control }
+        ensures { result ≡ self.now.control }
     {
         self.control
     }
 
     // How many actors are outstanding.
     pub fn outstanding_actors(&self) -> usize
-        ensures answer { result ≡ outstanding_actors (switch_model self.now).items }
+        ensures answer { result ≡ outstanding_actors self.now.items }
         ensures few { result ≤ 64 }
     {
-        items::count_outstanding(&self.items[0..self.count])
+        self.items
+            .iter()
+            .filter(|item| item.mark.is_outstanding())
+            .count()
     }
 
     pub fn id(&self) -> u16
-        ensures { result ≡ (switch_model self.now).id }
+        ensures { result ≡ self.now.id }
     {
         self.id
     }
 
     pub fn lists(&self, actor: u16) -> bool
-        ensures { result ≡ lists_actor actor (switch_model self.now).items }
+        ensures { result ≡ lists_actor actor self.now.items }
     {
-        items::lists(&self.items[0..self.count], actor)
+        self.items.iter().any(|item| item.actor == actor)
     }
 
     // The mark of an actor that the switch lists.
     pub fn mark_of(&self, actor: u16) -> Option<Mark>
-        ensures { result ≡ mark_of_actor actor (switch_model self.now).items }
+        ensures { result ≡ mark_of_actor actor self.now.items }
     {
-        items::mark_of(&self.items[0..self.count], actor)
+        let found = self.items.iter().find(|item| item.actor == actor);
+        found.map(|item| item.mark)
     }
 
     pub fn control_mark(&self) -> Mark
-        ensures { result ≡ (switch_model self.now).mark }
+        ensures { result ≡ self.now.mark }
     {
         self.mark
     }
 
     pub fn report(&self) -> Report
-        ensures { result ≡ (switch_model self.now).report }
+        ensures { result ≡ self.now.report }
     {
         self.report
     }
 
     pub fn numbers(&self) -> Numbers
-        ensures { result ≡ (switch_model self.now).numbers }
+        ensures { result ≡ self.now.numbers }
     {
         self.numbers
     }
 
     // Whether the switch must still be told of anything, or has not answered yet.
     pub fn has_outstanding(&self) -> bool
-        ensures { result ≡ has_outstanding (switch_model self.now) }
+        ensures { result ≡ has_outstanding self.now }
     {
-        items::any_outstanding(&self.items[0..self.count]) || self.mark.is_outstanding()
+        self.items.iter().any(|item| item.mark.is_outstanding()) || self.mark.is_outstanding()
     }
 }

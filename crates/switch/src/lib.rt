@@ -9,5 +9,4 @@ mod stepping;
 
 pub use asking::{MOST_ACTORS, stands_in};
 pub use memory::Switch;
-pub use row::{apply_at, find, touch_all};
-pub use stepping::SwitchStep;
+pub use row::{change_at, find, touch_all};

@@ -1,20 +1,27 @@
-// An enrolled switch as the hub keeps it, in fixed memory.
-ghost use Rattle.std.specs.Prelude.{◌≡◌, ◌≤◌, true, length, take};
-ghost use Rattle.switch.specs.Items.{all_named};
-
+// An enrolled switch as the hub keeps it, in fixed memory. A clause sees it as the rules do.
+use arrayvec::ArrayVec;
 use model::{Item, Mark, Numbers, Report};
+use std::marker::Model;
 
-// The first `count` items are in use.
-#[derive(Clone, Copy)]
+#[derive(Drop)]
 pub struct Switch {
     pub(crate) id: u16,
-    pub(crate) items: [Item; 64],
-    pub(crate) count: usize,
+    pub(crate) items: ArrayVec<Item, 64>,
     pub(crate) control: u32,
     pub(crate) mark: Mark,
     pub(crate) numbers: Numbers,
     pub(crate) report: Report,
-    ghost long: { length items ≡ 64 },
-    ghost few: { count ≤ 64 },
-    ghost named: { all_named (take count items) ≡ true },
+}
+
+// Every item names an actor.
+impl Model for Switch {
+    ghost use Rattle.std.specs.Prelude.{◌≡◌, true};
+    ghost use Rattle.model.specs.Models.{SwitchModel};
+    ghost use Rattle.switch.specs.Items.{all_named};
+
+    ghost Value = { SwitchModel };
+
+    ghost view = { λ s. record { id = s.id; items = s.items.items; control = s.control; mark = s.mark; numbers = s.numbers; report = s.report } };
+
+    ghost invariant = { λ s. all_named s.items.items ≡ true };
 }

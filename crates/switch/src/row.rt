@@ -1,29 +1,22 @@
 // Switches in a row, as a hub keeps them.
-ghost use Rattle.std.specs.Prelude.{◌≡◌, ◌<◌, map, length, IfSome};
+ghost use Rattle.std.specs.Prelude.{◌≡◌, map, position, ◌==◌};
+ghost use Rattle.std.specs.Fn.{FnOnceReturnsAtMut};
 ghost use Rattle.std.specs.Option.{option_map};
-ghost use Rattle.model.specs.Models.{at_switch, find_switch, touched};
-ghost use Rattle.switch.specs.Memory.{switch_model};
-ghost use Rattle.switch.specs.Places.{PlaceOf};
-ghost use Rattle.switch.specs.Steps.{stepped};
+ghost use Rattle.model.specs.Models.{SwitchModel, at_switch, find_switch, touched};
+ghost use Rattle.switch.specs.Changes.{Makes};
 
 use crate::memory::Switch;
-use crate::stepping::SwitchStep;
 
 // The switch with this ID.
 pub fn find(switches: &[Switch], id: u16) -> Option<&Switch>
-    ensures { option_map (λ s. switch_model s.now) result ≡ find_switch id (map switch_model switches.now) }
+    ensures { option_map (λ s. s.now) result ≡ find_switch id switches.now }
 {
-    for switch in switches {
-        if switch.id() == id {
-            return Some(switch);
-        }
-    }
-    None
+    switches.iter().find(|switch| switch.id() == id)
 }
 
 // An actor becomes due at every switch that lists it.
 pub fn touch_all(switches: &mut [Switch], actor: u16)
-    ensures { map switch_model switches.new ≡ map (touched actor) (map switch_model switches.old) }
+    ensures { switches.new ≡ map (touched actor) switches.old }
 {
     for switch in switches.iter_mut() {
         switch.touch(actor);
@@ -32,22 +25,17 @@ pub fn touch_all(switches: &mut [Switch], actor: u16)
 
 // The place of the switch with this ID, if there is one.
 fn place_of(switches: &[Switch], id: u16) -> Option<usize>
-    ensures place { PlaceOf id (map switch_model switches.now) result }
-    ensures within { IfSome result (λ i. i < length switches.now) }
+    ensures { result ≡ position (λ m. m.id == id) switches.now }
 {
-    for i in 0..switches.len() {
-        if switches[i].id() == id {
-            return Some(i);
-        }
-    }
-    None
+    switches.iter().position(|switch| switch.id() == id)
 }
 
-// Moves the switch with this ID, if there is one.
-pub fn apply_at(switches: &mut [Switch], id: u16, step: SwitchStep)
-    ensures { map switch_model switches.new ≡ at_switch id (stepped step) (map switch_model switches.old) }
+// Changes the switch with this ID, if there is one.
+pub fn change_at<F: FnOnce(&mut Switch)>(switches: &mut [Switch], id: u16, change: F)
+    requires callable { F.IsAlwaysCallable change }
+    ensures { (f : SwitchModel → SwitchModel) → Makes f (FnOnceReturnsAtMut F.FnOnce change) → switches.new ≡ at_switch id f switches.old }
 {
     if let Some(i) = place_of(switches, id) {
-        switches[i].apply(step);
+        change(&mut switches[i]);
     }
 }

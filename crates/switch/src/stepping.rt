@@ -1,10 +1,8 @@
 // What can happen to one switch alone.
-ghost use Rattle.std.specs.Prelude.{◌≡◌, cond};
-ghost use Rattle.model.specs.Models.{all_moved, touched};
-ghost use Rattle.model.specs.Composing.{number_after};
-ghost use Rattle.model.specs.Taking.{with_state};
-ghost use Rattle.switch.specs.Memory.{items_in, switch_model};
-ghost use Rattle.switch.specs.Steps.{stepped};
+ghost use Rattle.std.specs.Prelude.{◌≡◌};
+ghost use Rattle.model.specs.Composing.{brought_back, closed_slip, composed, number_after};
+ghost use Rattle.model.specs.Models.{all_moved, touched, with_control};
+ghost use Rattle.model.specs.Taking.{answered, with_key, with_reading, with_state};
 
 use crate::items;
 use crate::memory::Switch;
@@ -12,18 +10,6 @@ use model::{Change, KeyPress, Numbers};
 
 // Bit 6 of the flags, InitRequest, by which a switch asks for everything.
 const INIT_REQUEST: u32 = 1 << 6;
-
-#[derive(Clone, Copy)]
-pub enum SwitchStep {
-    SetControl(u32),
-    TellState(u32),
-    PressKey { actor: u16, key: u8 },
-    TellReading(Option<i16>),
-    Answer,
-    Compose,
-    CloseSlip,
-    BringBack,
-}
 
 // After the last package number comes 1, since 0 marks an event.
 fn number_after(number: u16) -> u16
@@ -35,23 +21,30 @@ fn number_after(number: u16) -> u16
 impl Switch {
     // An actor becomes due, where the switch lists it.
     pub fn touch(&mut self, actor: u16)
-        ensures { switch_model self.new ≡ touched actor (switch_model self.old) }
+        ensures { self.new ≡ touched actor self.old }
     {
-        let count = self.count;
-        items::touch(&mut self.items[0..count], actor);
+        items::touch(self.items.as_mut_slice(), actor);
     }
 
     // Every item moves, the control word too.
     fn move_all(&mut self, change: Change)
-        ensures { switch_model self.new ≡ all_moved change (switch_model self.old) }
+        ensures { self.new ≡ all_moved change self.old }
     {
-        let count = self.count;
-        items::move_all(&mut self.items[0..count], change);
+        items::move_all(self.items.as_mut_slice(), change);
         self.mark.note(change);
     }
 
-    fn tell_state(&mut self, flags: u32)
-        ensures { switch_model self.new ≡ with_state flags (switch_model self.old) }
+    // The control word becomes this one, and due.
+    pub fn set_control(&mut self, word: u32)
+        ensures { self.new ≡ with_control word self.old }
+    {
+        self.control = word;
+        self.mark.note(Change::Changed);
+    }
+
+    // The switch told its flags; with InitRequest every item becomes due.
+    pub fn tell_state(&mut self, flags: u32)
+        ensures { self.new ≡ with_state flags self.old }
     {
         self.report.flags = flags;
         if flags / INIT_REQUEST % 2 == 1 {
@@ -59,37 +52,57 @@ impl Switch {
         }
     }
 
-    // Moves the switch in place.
-    pub fn apply(&mut self, step: SwitchStep)
-        ensures { switch_model self.new ≡ stepped step (switch_model self.old) }
+    // A key was pressed for an actor.
+    pub fn press_key(&mut self, actor: u16, key: u8)
+        ensures { self.new ≡ with_key actor key self.old }
     {
-        match step {
-            SwitchStep::SetControl(word) => {
-                self.control = word;
-                self.mark.note(Change::Changed);
-            }
-            SwitchStep::TellState(flags) => self.tell_state(flags),
-            SwitchStep::PressKey { actor, key } => self.report.key = Some(KeyPress { actor, key }),
-            SwitchStep::TellReading(reading) => self.report.reading = reading,
-            SwitchStep::Answer => {
-                self.move_all(Change::Answered);
-                self.numbers.awaited = 0;
-            }
-            SwitchStep::Compose => {
-                self.move_all(Change::Composed);
-                let number = self.numbers.next;
-                self.numbers = Numbers {
-                    next: number_after(number),
-                    awaited: number,
-                    slip: Some(number),
-                };
-            }
-            SwitchStep::CloseSlip => self.numbers.slip = None,
-            SwitchStep::BringBack => {
-                self.move_all(Change::Withheld);
-                self.numbers.awaited = 0;
-                self.numbers.slip = None;
-            }
-        }
+        self.report.key = Some(KeyPress { actor, key });
+    }
+
+    // The switch told its reading.
+    pub fn tell_reading(&mut self, reading: Option<i16>)
+        ensures { self.new ≡ with_reading reading self.old }
+    {
+        self.report.reading = reading;
+    }
+
+    // The awaited answer came: what was under way is settled, and nothing is awaited.
+    pub fn answer(&mut self)
+        ensures { self.new ≡ answered self.old }
+    {
+        self.move_all(Change::Answered);
+        self.numbers.awaited = 0;
+    }
+
+    // A packet was composed: what was due is under way, its answer is awaited, and its slip is open.
+    pub fn compose(&mut self)
+        ensures { self.new ≡ composed self.old }
+    {
+        self.move_all(Change::Composed);
+        let number = self.numbers.next;
+        self.numbers = Numbers {
+            next: number_after(number),
+            awaited: number,
+            slip: Some(number),
+        };
+    }
+
+    // The packet was sent.
+    pub fn close_slip(&mut self)
+        ensures { self.new ≡ closed_slip self.old }
+    {
+        self.numbers.slip = None;
+    }
+
+    // The packet was withheld: what was under way is due again, and nothing is awaited.
+    pub fn bring_back(&mut self)
+        ensures { self.new ≡ brought_back self.old }
+    {
+        self.move_all(Change::Withheld);
+        self.numbers = Numbers {
+            awaited: 0,
+            slip: None,
+            ..self.numbers
+        };
     }
 }

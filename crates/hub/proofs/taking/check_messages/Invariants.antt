@@ -1,6 +1,5 @@
 use Rattle.std.proofs.Common.{◌≡◌, ◌-◌, ◌≤◌, length}
 use Rattle.packet.specs.Reading.{messages_from}
-use Rattle.switch.specs.Memory.{items_in}
 use Rattle.hub.specs.Surveys.{survey_of}
 use Rattle.hub.proofs.Surveys.{onto}
 use Rattle.hub.proofs.taking.check_messages.Given as goal
@@ -10,7 +9,7 @@ invariant-loop-place l =
     (l.cursor.payload.now ≡ l.payload)
     × (l.survey.understood ≤ l.cursor.place)
     × (l.cursor.place ≤ 1488)
-    × (onto l.survey (survey_of (items_in l.switch) (messages_from l.payload l.cursor.place)) ≡ survey_of (items_in l.switch) (messages_from l.payload 16))
+    × (onto l.survey (survey_of l.switch.items (messages_from l.payload l.cursor.place)) ≡ survey_of l.switch.items (messages_from l.payload 16))
 
 abbrev pub decreases-loop-place : goal.decreases-loop-place
 decreases-loop-place l = length l.cursor.payload.now - l.cursor.place

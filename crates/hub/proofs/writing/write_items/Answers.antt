@@ -5,9 +5,8 @@ use Rattle.packet.specs.declared.drafting.Draft.{Draft}
 use Rattle.packet.specs.declared.records.Record.{Record}
 use Rattle.model.specs.declared.item.Item.{Item}
 use Rattle.model.specs.Composing.{actor_records, item_records}
-use Rattle.switch.proofs.Searches.{no_item}
 use Rattle.hub.specs.Writing.{Wrote}
-use Rattle.hub.proofs.Written.{actors_room, item_named, items_long, items_more, wrote_nothing, wrote_then}
+use Rattle.hub.proofs.Written.{actors_room, blank_item, item_named, items_long, items_more, wrote_nothing, wrote_then}
 use Rattle.hub.proofs.writing.write_items.Goals as goal
 use Rattle.hub.proofs.writing.write_items.Goals.{then-is_outstanding, else-is_outstanding}
 
@@ -22,19 +21,19 @@ write_actor-draft-requires g c =
     let st = g.S.ActorStore.meaning c.args.store.now in
     let size = c.loop-item.invariant.size in
     let long = items_long st (take i xs) in
-    let room = actors_room xs i no_item c.loop-item-test.true (sym c.if-is_outstanding.ensures) in
+    let room = actors_room xs i blank_item c.loop-item-test.true (sym c.if-is_outstanding.ensures) in
     let kept = c.loop-item.auto.buf in
     let first = c.requires.1.0 in
     let second = c.requires.1.1 in
-    (item_named xs i no_item c.loop-item-test.true c.requires.0, (omega arith, omega arith))
+    (item_named xs i blank_item c.loop-item-test.true c.requires.0, (omega arith, omega arith))
 
 pub loop-item-preserved : goal.loop-item-preserved
 loop-item-preserved g c =
     let xs = c.args.items.now in
     let i = c.loop-item.item-index in
     let st = g.S.ActorStore.meaning c.args.store.now in
-    let x = get_or xs i no_item in
-    let more = items_more xs i no_item c.loop-item-test.true st in
+    let x = get_or xs i blank_item in
+    let more = items_more xs i blank_item c.loop-item-test.true st in
     let d = c.args.draft in
     let buf = c.args.buf.now in
     elim c.if-is_outstanding.branch [

@@ -8,7 +8,6 @@ use Rattle.model.specs.declared.item.Item.{Item}
 use Rattle.model.specs.declared.mark.Mark.{Mark}
 use Rattle.model.specs.Composing.{item_records, outstanding_actors}
 use Rattle.model.specs.Marks.{is_outstanding}
-use Rattle.switch.specs.Memory.{switch_model}
 use Rattle.hub.specs.Compositions.{packet_length}
 use Rattle.hub.proofs.Written.{actors_few, actors_same, control_few, control_long, control_same, items_long}
 use Rattle.hub.proofs.writing.write_packet.Goals as goal
@@ -28,7 +27,7 @@ pub write_control-draft-requires : goal.write_control-draft-requires
 write_control-draft-requires g c =
     let xs = c.items.result.now in
     let st = g.S.ActorStore.meaning c.args.store.now in
-    let m = switch_model c.args.switch.now in
+    let m = c.args.switch.now in
     let size = c.begin-draft.ensures.size in
     let more = c.write_items-draft.ensures.size in
     let long = items_long st xs in
@@ -46,7 +45,7 @@ pub finish-requires : goal.finish-requires
 finish-requires g c =
     let xs = c.items.result.now in
     let st = g.S.ActorStore.meaning c.args.store.now in
-    let m = switch_model c.args.switch.now in
+    let m = c.args.switch.now in
     let size = c.begin-draft.ensures.size in
     let more = c.write_items-draft.ensures.size in
     let last = c.write_control-draft.ensures.size in
@@ -67,7 +66,7 @@ pub returns : goal.returns
 returns g c =
     let xs = c.items.result.now in
     let st = g.S.ActorStore.meaning c.args.store.now in
-    let m = switch_model c.args.switch.now in
+    let m = c.args.switch.now in
     let w = c.args.words in
     let d = c.write_control-draft.result in
     let end = c.finish.new.buf in

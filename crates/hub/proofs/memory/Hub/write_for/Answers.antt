@@ -3,7 +3,6 @@ use Rattle.packet.specs.declared.words.Descriptor.{Descriptor}
 use Rattle.packet.specs.Packets.{packet_bytes}
 use Rattle.model.specs.Composing.{has_outstanding, packet_for, packet_over, records_for, words_for}
 use Rattle.model.specs.declared.told.Numbers.{Numbers}
-use Rattle.switch.specs.Memory.{switch_model}
 use Rattle.hub.specs.Compositions.{composition, packet_length}
 use Rattle.hub.specs.Memory.{hub_model}
 use Rattle.hub.proofs.Compositions.{compose_room, compose_short, told_alike}
@@ -13,7 +12,7 @@ use Rattle.hub.proofs.memory.Hub.write_for.Goals as goal
 pub returns-then-buf-length : goal.returns-then-buf-length
 returns-then-buf-length g c =
     let h = hub_model g.S.ActorStore.meaning c.args.self.now in
-    let m = switch_model c.args.switch.now in
+    let m = c.args.switch.now in
     let id = c.args.id in
     let buf = c.args.buf.now in
     let free : is_some m.numbers.slip ≡ false = ap (λ (n : Numbers). is_some n.slip) (sym c.numbers.ensures) ∙ sym c.if-is_some.ensures in
@@ -28,7 +27,7 @@ returns-then-buf-length g c =
 pub returns : goal.returns
 returns g c =
     let h = hub_model g.S.ActorStore.meaning c.args.self.now in
-    let m = switch_model c.args.switch.now in
+    let m = c.args.switch.now in
     let id = c.args.id in
     let buf = c.args.buf.now in
     let free : is_some m.numbers.slip ≡ false = ap (λ (n : Numbers). is_some n.slip) (sym c.numbers.ensures) ∙ sym c.if-is_some.ensures in
