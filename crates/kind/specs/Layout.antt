@@ -25,6 +25,15 @@ pub record Lawful {R : Type 0} (k : Layout R) : Type 0 where
   pub long : (r : R) → length (k.encode r) + 4 ≡ k.size
   pub round : (r : R) → k.Fits r → k.decode (k.encode r) ≡ k.masked r
 
+-- Two layouts that say the same.
+pub record Agrees {R : Type 0} (k l : Layout R) : Type 0 where
+  pub ident : k.ident ≡ l.ident
+  pub size : k.size ≡ l.size
+  pub admits : (actor : ℕ) → k.admits actor ≡ l.admits actor
+  pub encode : (r : R) → k.encode r ≡ l.encode r
+  pub decode : (s : List ℕ) → k.decode s ≡ l.decode s
+  pub masked : (r : R) → k.masked r ≡ l.masked r
+
 -- the little-endian word at a place
 abbrev pub word : List ℕ → ℕ → ℕ
 word s i = slice_index s i + slice_index s (i + 1) * 256

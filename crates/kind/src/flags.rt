@@ -1,88 +1,61 @@
 // Two kinds of 32 bits under a mask: how a switch reports itself, and how it is told to behave.
-ghost use Rattle.kind.specs.Kinds.{control, state};
-ghost use Rattle.kind.specs.Laws.{control_lawful, state_lawful};
+ghost use Rattle.std.specs.Prelude.{refl};
+ghost use Rattle.kind.specs.Kinds.{flags};
+ghost use Rattle.kind.specs.Laws.{flags_lawful};
 
 use crate::message::Kind;
+
+// An associated constant of a generic impl is no pattern: a match names these.
+pub const STATE_ID: u8 = 0x01;
+
+pub const CONTROL_ID: u8 = 0x21;
 
 // The bits that mean something; the others are dropped in both directions.
 const STATE_BITS: u32 = 0x1F0F18FF;
 
 pub const CONTROL_BITS: u32 = 0x1F00FFBF;
 
+// 32 bits, of which those of the mask mean something.
+#[derive(Clone, Copy, PartialEq, Eq, Debug)]
+pub struct Flags<const ID: u8, const MASK: u32>;
+
 // What a switch reports of itself.
-#[derive(Clone, Copy)]
-pub struct State;
-
-impl Kind for State {
-    const ID: u8 = 0x01;
-
-    const LEN: u8 = 8;
-
-    type Record = u32;
-
-    ghost layout = { state };
-
-    ghost lawful = { state_lawful };
-
-    fn message_id() -> u8 {
-        Self::ID
-    }
-
-    fn message_len() -> u8 {
-        Self::LEN
-    }
-
-    fn admits(actor: u16) -> bool {
-        actor == 0
-    }
-
-    fn decode(data: &[u8]) -> Option<u32> {
-        let [a, b, c, d] = data else {
-            return None;
-        };
-        Some(u32::from_le_bytes([*a, *b, *c, *d]) & STATE_BITS)
-    }
-
-    fn encode(record: u32) -> [u8; 4] {
-        (record & STATE_BITS).to_le_bytes()
-    }
-}
+pub type State = Flags<STATE_ID, STATE_BITS>;
 
 // How a switch is told to behave.
-#[derive(Clone, Copy)]
-pub struct Control;
+pub type Control = Flags<CONTROL_ID, CONTROL_BITS>;
 
-impl Kind for Control {
-    const ID: u8 = 0x21;
+impl<const ID: u8, const MASK: u32> Kind for Flags<ID, MASK> {
+    const ID: u8 = ID;
+
+    ghost ID = { ID };
 
     const LEN: u8 = 8;
 
+    ghost LEN = { 8 };
+
     type Record = u32;
 
-    ghost layout = { control };
+    ghost layout = { flags ID MASK };
 
-    ghost lawful = { control_lawful };
+    ghost ident = { refl };
 
-    fn message_id() -> u8 {
-        Self::ID
-    }
+    ghost sized = { refl };
 
-    fn message_len() -> u8 {
-        Self::LEN
-    }
+    ghost lawful = { flags_lawful ID MASK ID-fits.fits MASK-fits.fits };
 
     fn admits(actor: u16) -> bool {
         actor == 0
     }
 
     fn decode(data: &[u8]) -> Option<u32> {
-        let [a, b, c, d] = data else {
+        let &[a, b, c, d] = data else {
             return None;
         };
-        Some(u32::from_le_bytes([*a, *b, *c, *d]) & CONTROL_BITS)
+        Some(u32::from_le_bytes([a, b, c, d]) & MASK)
     }
 
     fn encode(record: u32) -> [u8; 4] {
-        (record & CONTROL_BITS).to_le_bytes()
+        (record & MASK).to_le_bytes()
     }
 }

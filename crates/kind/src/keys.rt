@@ -1,4 +1,5 @@
 // A key pressed at a switch.
+ghost use Rattle.std.specs.Prelude.{refl};
 ghost use Rattle.kind.specs.Kinds.{event};
 ghost use Rattle.kind.specs.Laws.{event_lawful};
 
@@ -8,37 +9,37 @@ use crate::message::Kind;
 const KEY_BITS: u8 = 0x0F;
 
 // A key that acts on an actor.
-#[derive(Clone, Copy)]
+#[derive(Clone, Copy, PartialEq, Eq, Debug)]
 pub struct Event;
 
 impl Kind for Event {
     const ID: u8 = 0x51;
 
+    ghost ID = { event.ident };
+
     const LEN: u8 = 6;
+
+    ghost LEN = { event.size };
 
     type Record = u8;
 
     ghost layout = { event };
 
+    ghost ident = { refl };
+
+    ghost sized = { refl };
+
     ghost lawful = { event_lawful };
-
-    fn message_id() -> u8 {
-        Self::ID
-    }
-
-    fn message_len() -> u8 {
-        Self::LEN
-    }
 
     fn admits(actor: u16) -> bool {
         actor != 0
     }
 
     fn decode(data: &[u8]) -> Option<u8> {
-        let [key, _] = data else {
+        let &[key, _] = data else {
             return None;
         };
-        Some(*key & KEY_BITS)
+        Some(key & KEY_BITS)
     }
 
     fn encode(record: u8) -> [u8; 4] {

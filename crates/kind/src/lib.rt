@@ -1,14 +1,25 @@
 // The six kinds of message, and one reader and one writer that serve them all.
 #![tactic(auto)]
 
+ghost use Rattle.kind.specs.Kinds.{control, edit_value, real_value, state};
+ghost use Rattle.kind.specs.Layout.{Agrees};
+
 mod flags;
 mod keys;
 mod message;
 mod readings;
 mod values;
 
-pub use flags::{CONTROL_BITS, Control, State};
+pub use flags::{CONTROL_BITS, CONTROL_ID, Control, Flags, STATE_ID, State};
 pub use keys::Event;
 pub use message::{Kind, read, write};
 pub use readings::Temperature;
-pub use values::{EditValue, RealValue};
+pub use values::{EDIT_VALUE_ID, EditValue, REAL_VALUE_ID, RealValue, Value};
+
+// Nothing runs here: it states that each kind of flags or values is the one of its name.
+pub fn flags_and_values_stand()
+    ensures state { Agrees ⟦<State as Kind>⟧.layout state }
+    ensures control { Agrees ⟦<Control as Kind>⟧.layout control }
+    ensures edit_value { Agrees ⟦<EditValue as Kind>⟧.layout edit_value }
+    ensures real_value { Agrees ⟦<RealValue as Kind>⟧.layout real_value }
+{}

@@ -9,22 +9,19 @@ pub trait Kind {
     // The MessageID by which the kind is known.
     const ID: u8;
 
+    ghost ID: { ℕ };
+
     // The MessageLength, which counts the whole message.
     const LEN: u8;
+
+    ghost LEN: { ℕ };
 
     // What a message of this kind says.
     type Record: Copy;
 
     ghost layout: { Layout Self.Record };
 
-    // ID and LEN once more, as calls, since a contract can speak of a call's answer.
-    fn message_id() -> u8
-        ensures { result ≡ layout.ident };
-
-    fn message_len() -> u8
-        ensures { result ≡ layout.size };
-
-    // Whether a message of this kind may name the actor.
+    // Whether a message of this kind may name the actor. A constant in place of this line of each kind would need a ghost member and a law beside it.
     fn admits(actor: u16) -> bool
         ensures { result ≡ layout.admits actor };
 
@@ -36,64 +33,59 @@ pub trait Kind {
     fn encode(record: Self::Record) -> [u8; 4]
         ensures { result ≡ padded (layout.encode «record») };
 
-    ghost lawful: { Lawful layout };
-}
+    // The constants are the layout's.
+    ghost ident: { ID ≡ layout.ident };
 
-// The record in the data of the message that begins `rest`, which has the kind's length.
-fn record_in<K: Kind>(rest: &[u8]) -> K::Record
-    requires { K.Kind.layout.size ≤ length rest.now }
-    ensures { result ≡ K.Kind.layout.decode (slice_range rest.now 4 K.Kind.layout.size) }
-{
-    match K::decode(&rest[4..K::message_len() as usize]) {
-        Some(record) => record,
-        None => unreachable(),
-    }
+    ghost sized: { LEN ≡ layout.size };
+
+    ghost lawful: { Lawful layout };
 }
 
 // Reads the message that begins `rest` as one of kind K. `rest` is what is left of a payload, from `place` on.
 pub fn read<K: Kind>(rest: &[u8], place: usize) -> Result<(u16, K::Record), Fault>
-    ensures { result ≡ read_of K.Kind.layout rest.now place }
+    ensures { result ≡ read_of K.layout rest.now place }
 {
-    let [len, _, lo, hi, ..] = rest else {
+    let &[len, _, lo, hi, ..] = rest else {
         return Err(Fault::Message(MessageFault::Broken, place));
     };
-    let len = *len;
     if len < 4 || len as usize > rest.len() {
         return Err(Fault::Message(MessageFault::Broken, place));
     }
-    if len != K::message_len() {
+    if len != K::LEN {
         return Err(Fault::Message(MessageFault::KindLength, place));
     }
-    let actor = u16::from_le_bytes([*lo, *hi]);
+    let actor = u16::from_le_bytes([lo, hi]);
     if !K::admits(actor) {
         return Err(Fault::Message(MessageFault::ActorRule, place));
     }
-    Ok((actor, record_in::<K>(rest)))
+    let record = K::decode(&rest[4..K::LEN as usize]).unwrap();
+    Ok((actor, record))
 }
 
 // Lays the message over the front of `out`, which has room for it.
 fn lay<K: Kind>(out: &mut [u8], actor: u16, record: K::Record)
-    requires { (K.Kind.layout.size ≤ length out.old) × (K.Kind.layout.admits actor ≡ true) }
-    ensures bytes { out.new ≡ message_of K.Kind.layout actor «record» ++ drop K.Kind.layout.size out.old }
-    ensures back { ReadsBack K.Kind.layout actor «record» out.new }
+    requires room { K.layout.size ≤ length out.old }
+    requires admitted { K.layout.admits actor ≡ true }
+    ensures bytes { out.new ≡ message_of K.layout actor «record» ++ drop K.layout.size out.old }
+    ensures back { ReadsBack K.layout actor «record» out.new }
 {
-    let size = K::message_len() as usize;
+    let size = K::LEN as usize;
     let [lo, hi] = actor.to_le_bytes();
     let data = K::encode(record);
-    out[0..4].copy_from_slice(&[K::message_len(), K::message_id(), lo, hi]);
+    out[0..4].copy_from_slice(&[K::LEN, K::ID, lo, hi]);
     out[4..size].copy_from_slice(&data[0..size - 4]);
 }
 
 // Writes a message of kind K at the front of `out`, and tells its length. What lies behind it stays.
 pub fn write<K: Kind>(out: &mut [u8], actor: u16, record: K::Record) -> Result<usize, Fault>
-    ensures answer { result ≡ write_of K.Kind.layout actor out.old }
-    ensures bytes { out.new ≡ written_of K.Kind.layout actor «record» out.old }
-    ensures back { OnOk result (ReadsBack K.Kind.layout actor «record» out.new) }
+    ensures answer { result ≡ write_of K.layout actor out.old }
+    ensures bytes { out.new ≡ written_of K.layout actor «record» out.old }
+    ensures back { OnOk result (ReadsBack K.layout actor «record» out.new) }
 {
     if !K::admits(actor) {
         return Err(Fault::Message(MessageFault::ActorRule, 0));
     }
-    let size = K::message_len() as usize;
+    let size = K::LEN as usize;
     if out.len() < size {
         return Err(Fault::Call(CallFault::ShortBuffer, 0));
     }

@@ -1,4 +1,5 @@
 // The room temperature that a switch measures.
+ghost use Rattle.std.specs.Prelude.{refl};
 ghost use Rattle.kind.specs.Kinds.{temperature};
 ghost use Rattle.kind.specs.Laws.{temperature_lawful};
 
@@ -8,40 +9,37 @@ use crate::message::Kind;
 const VALID: u8 = 1;
 
 // A reading in tenths of a degree, absent where the switch has none.
-#[derive(Clone, Copy)]
+#[derive(Clone, Copy, PartialEq, Eq, Debug)]
 pub struct Temperature;
 
 impl Kind for Temperature {
     const ID: u8 = 0x71;
 
+    ghost ID = { temperature.ident };
+
     const LEN: u8 = 8;
+
+    ghost LEN = { temperature.size };
 
     type Record = Option<i16>;
 
     ghost layout = { temperature };
 
+    ghost ident = { refl };
+
+    ghost sized = { refl };
+
     ghost lawful = { temperature_lawful };
-
-    fn message_id() -> u8 {
-        Self::ID
-    }
-
-    fn message_len() -> u8 {
-        Self::LEN
-    }
 
     fn admits(actor: u16) -> bool {
         actor == 0
     }
 
     fn decode(data: &[u8]) -> Option<Option<i16>> {
-        let [lo, hi, valid, _] = data else {
+        let &[lo, hi, valid, _] = data else {
             return None;
         };
-        if *valid != VALID {
-            return Some(None);
-        }
-        Some(Some(i16::from_le_bytes([*lo, *hi])))
+        Some((valid == VALID).then_some(i16::from_le_bytes([lo, hi])))
     }
 
     fn encode(record: Option<i16>) -> [u8; 4] {

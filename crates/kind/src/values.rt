@@ -1,81 +1,53 @@
 // Two kinds of one signed word: an actor's target and its actual value.
-ghost use Rattle.kind.specs.Kinds.{edit_value, real_value};
-ghost use Rattle.kind.specs.Laws.{edit_value_lawful, real_value_lawful};
+ghost use Rattle.std.specs.Prelude.{refl};
+ghost use Rattle.kind.specs.Kinds.{value};
+ghost use Rattle.kind.specs.Laws.{value_lawful};
 
 use crate::message::Kind;
 
+// An associated constant of a generic impl is no pattern: a match names these.
+pub const EDIT_VALUE_ID: u8 = 0x42;
+
+pub const REAL_VALUE_ID: u8 = 0x43;
+
+// One signed word of an actor.
+#[derive(Clone, Copy, PartialEq, Eq, Debug)]
+pub struct Value<const ID: u8>;
+
 // An actor's target.
-#[derive(Clone, Copy)]
-pub struct EditValue;
-
-impl Kind for EditValue {
-    const ID: u8 = 0x42;
-
-    const LEN: u8 = 6;
-
-    type Record = i16;
-
-    ghost layout = { edit_value };
-
-    ghost lawful = { edit_value_lawful };
-
-    fn message_id() -> u8 {
-        Self::ID
-    }
-
-    fn message_len() -> u8 {
-        Self::LEN
-    }
-
-    fn admits(actor: u16) -> bool {
-        actor != 0
-    }
-
-    fn decode(data: &[u8]) -> Option<i16> {
-        let [lo, hi] = data else {
-            return None;
-        };
-        Some(i16::from_le_bytes([*lo, *hi]))
-    }
-
-    fn encode(record: i16) -> [u8; 4] {
-        let [lo, hi] = record.to_le_bytes();
-        [lo, hi, 0, 0]
-    }
-}
+pub type EditValue = Value<EDIT_VALUE_ID>;
 
 // An actor's actual value.
-#[derive(Clone, Copy)]
-pub struct RealValue;
+pub type RealValue = Value<REAL_VALUE_ID>;
 
-impl Kind for RealValue {
-    const ID: u8 = 0x43;
+impl<const ID: u8> Kind for Value<ID> {
+    const ID: u8 = ID;
+
+    ghost ID = { ID };
 
     const LEN: u8 = 6;
 
+    ghost LEN = { 6 };
+
     type Record = i16;
 
-    ghost layout = { real_value };
+    ghost layout = { value ID };
 
-    ghost lawful = { real_value_lawful };
+    ghost ident = { refl };
 
-    fn message_id() -> u8 {
-        Self::ID
-    }
+    ghost sized = { refl };
 
-    fn message_len() -> u8 {
-        Self::LEN
-    }
+    ghost lawful = { value_lawful ID ID-fits.fits };
 
     fn admits(actor: u16) -> bool {
         actor != 0
     }
 
     fn decode(data: &[u8]) -> Option<i16> {
-        let [lo, hi] = data else {
+        let &[lo, hi] = data else {
             return None;
         };
-        Some(i16::from_le_bytes([*lo, *hi]))
+        Some(i16::from_le_bytes([lo, hi]))
     }
 
     fn encode(record: i16) -> [u8; 4] {

@@ -8,14 +8,15 @@ use crate::words::{DESCRIPTOR_LEN, Descriptor, FRAME_ID, MAJOR_VERSION, PAYLOAD_
 use fault::{CallFault, Fault, FrameFault, MessageFault};
 use kind::{Control, EditValue, Event, Kind, RealValue, State, Temperature};
 
-// A packet that still takes records; only their bytes are counted, since the caller has the buffer.
-#[derive(Drop)]
+// A packet that still takes records. It is a number alone, moved from step to step, and the caller passes the buffer at each:
+// a draft that held the buffer would borrow it until it is closed.
+#[derive(PartialEq, Eq, Debug, Drop)]
 pub struct Draft {
     behind: usize,
 }
 
 // A packet whose FrameLength is filled in. It takes no record: begin another draft.
-#[derive(Drop)]
+#[derive(PartialEq, Eq, Debug, Drop)]
 pub struct Closed {
     length: usize,
 }
@@ -60,28 +61,17 @@ fn write_open(buf: &mut [u8], words: Descriptor)
 
 // Writes a message of kind K at a place where it has room.
 fn write_at<K: Kind>(buf: &mut [u8], at: usize, actor: u16, record: K::Record)
-    requires { (at + K.Kind.layout.size ≤ length buf.old) × (K.Kind.layout.admits actor ≡ true) }
-    ensures { buf.new ≡ over buf.old at (message_of K.Kind.layout actor «record») }
+    requires room { at + K.layout.size ≤ length buf.old }
+    requires admitted { K.layout.admits actor ≡ true }
+    ensures { buf.new ≡ over buf.old at (message_of K.layout actor «record») }
 {
-    match kind::write::<K>(&mut buf[at..], actor, record) {
-        Ok(_) => {}
-        Err(_) => unreachable(),
-    }
-}
-
-// Whether a draft of so many bytes behind the descriptor has no room for so many more.
-fn is_full(behind: usize, more: u8, buf: &[u8]) -> bool
-    ensures { result ≡ full (record { behind = behind }) more buf.now }
-{
-    let room = buf.len().min(PAYLOAD_MOST);
-    room < DESCRIPTOR_LEN
-        || behind > room - DESCRIPTOR_LEN
-        || more as usize > room - DESCRIPTOR_LEN - behind
+    let _ = kind::write::<K>(&mut buf[at..], actor, record).unwrap();
 }
 
 // Fills in the FrameLength of a draft of so many bytes behind the descriptor.
 fn fill_length(buf: &mut [u8], behind: usize)
-    requires { (16 + behind ≤ length buf.old) × (16 + behind ≤ 1472) }
+    requires room { 16 + behind ≤ length buf.old }
+    requires most { 16 + behind ≤ 1472 }
     ensures bytes { buf.new ≡ over buf.old 2 (word_bytes (16 + behind)) }
     ensures back { ReadsBack (record { behind = behind }) buf.old (take (16 + behind) buf.new) }
 {
@@ -90,6 +80,16 @@ fn fill_length(buf: &mut [u8], behind: usize)
 }
 
 impl Draft {
+    // Whether the packet or the buffer has no room for so many bytes more.
+    fn is_full(&self, more: u8, buf: &[u8]) -> bool
+        ensures { result ≡ full self.now more buf.now }
+    {
+        let room = buf.len().min(PAYLOAD_MOST);
+        room < DESCRIPTOR_LEN
+            || self.behind > room - DESCRIPTOR_LEN
+            || more as usize > room - DESCRIPTOR_LEN - self.behind
+    }
+
     // Begins a packet with these words, and writes its descriptor.
     pub fn begin(buf: &mut [u8], words: Descriptor) -> Result<Draft, Fault>
         ensures answer { result ≡ begun words buf.old }
@@ -113,19 +113,18 @@ impl Draft {
         actor: u16,
         record: K::Record,
     ) -> Result<Draft, (Fault, Draft)>
-        ensures answer { result ≡ appended K.Kind.layout self actor buf.old }
-        ensures bytes { buf.new ≡ appended_bytes K.Kind.layout self actor «record» buf.old }
+        ensures answer { result ≡ appended K.layout self actor buf.old }
+        ensures bytes { buf.new ≡ appended_bytes K.layout self actor «record» buf.old }
     {
-        let Draft { behind } = self;
         if !K::admits(actor) {
-            return Err((Fault::Message(MessageFault::ActorRule, 0), Draft { behind }));
+            return Err((Fault::Message(MessageFault::ActorRule, 0), self));
         }
-        if is_full(behind, K::message_len(), buf) {
-            return Err((Fault::Call(CallFault::ShortBuffer, 0), Draft { behind }));
+        if self.is_full(K::LEN, buf) {
+            return Err((Fault::Call(CallFault::ShortBuffer, 0), self));
         }
-        write_at::<K>(buf, DESCRIPTOR_LEN + behind, actor, record);
+        write_at::<K>(buf, DESCRIPTOR_LEN + self.behind, actor, record);
         Ok(Draft {
-            behind: behind + K::message_len() as usize,
+            behind: self.behind + K::LEN as usize,
         })
     }
 
@@ -150,13 +149,12 @@ impl Draft {
         ensures bytes { buf.new ≡ closed_bytes self buf.old }
         ensures back { IfOk result (λ c. ReadsBack self buf.old (take c.length buf.new)) }
     {
-        let Draft { behind } = self;
-        if is_full(behind, 0, buf) {
-            return Err((Fault::Call(CallFault::ShortBuffer, 0), Draft { behind }));
+        if self.is_full(0, buf) {
+            return Err((Fault::Call(CallFault::ShortBuffer, 0), self));
         }
-        fill_length(buf, behind);
+        fill_length(buf, self.behind);
         Ok(Closed {
-            length: DESCRIPTOR_LEN + behind,
+            length: DESCRIPTOR_LEN + self.behind,
         })
     }
 }

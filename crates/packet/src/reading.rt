@@ -21,10 +21,10 @@ fn count_understood(rest: &[u8], place: usize) -> Result<usize, Fault>
     ensures answer { result ≡ count_of (messages_of rest.now 0 place) }
     ensures few { IfOk result (λ n. n ≤ length rest.now) }
 {
-    let [len, ..] = rest else {
+    let &[len, ..] = rest else {
         return Ok(0);
     };
-    let len = *len as usize;
+    let len = len as usize;
     let message = Message::read(rest, place)?;
     let more = count_understood(&rest[len..], place + len)?;
     if message.is_known() {
@@ -36,7 +36,8 @@ fn count_understood(rest: &[u8], place: usize) -> Result<usize, Fault>
 
 // How many messages behind the descriptor are understood.
 fn count_behind(payload: &[u8]) -> Result<usize, Fault>
-    requires { (16 ≤ length payload.now) × (length payload.now ≤ 1472) }
+    requires least { 16 ≤ length payload.now }
+    requires most { length payload.now ≤ 1472 }
     ensures { result ≡ count_of (messages_from payload.now 16) }
 {
     count_understood(&payload[DESCRIPTOR_LEN..], DESCRIPTOR_LEN)

@@ -4,7 +4,10 @@ ghost use Rattle.kind.specs.Layout.{broken};
 ghost use Rattle.packet.specs.Messages.{message_of, is_known};
 
 use fault::{Fault, MessageFault};
-use kind::{Control, EditValue, Event, Kind, RealValue, State, Temperature};
+use kind::{
+    CONTROL_ID, Control, EDIT_VALUE_ID, EditValue, Event, Kind, REAL_VALUE_ID, RealValue, STATE_ID,
+    State, Temperature,
+};
 
 // A message of a known kind, in the kind's own terms.
 #[derive(Clone, Copy, PartialEq, Eq, Debug)]
@@ -29,10 +32,7 @@ impl Message {
     pub fn is_known(self) -> bool
         ensures { result ≡ is_known self }
     {
-        match self {
-            Message::Known(_) => true,
-            Message::Unknown(_) => false,
-        }
+        matches!(self, Message::Known(_))
     }
 
     // Reads the message that begins `rest`. `rest` is what is left of a payload, from `place` on.
@@ -40,47 +40,30 @@ impl Message {
         ensures answer { result ≡ message_of rest.now place }
         ensures whole { OnOk result ((4 ≤ slice_index rest.now 0) × (slice_index rest.now 0 ≤ length rest.now)) }
     {
-        let [len, id, _lo, _hi, _rest @ ..] = rest else {
+        let &[len, id, _lo, _hi, ..] = rest else {
             return Err(Fault::Message(MessageFault::Broken, place));
         };
-        let len = *len;
         if len < 4 || len as usize > rest.len() {
             return Err(Fault::Message(MessageFault::Broken, place));
         }
-        Message::read_whole(*id, rest, place)
-    }
-
-    // Reads a message that is not broken, by the kind that has its MessageID.
-    fn read_whole(id: u8, rest: &[u8], place: usize) -> Result<Message, Fault>
-        requires { (broken rest.now ≡ false) × (id ≡ slice_index rest.now 1) }
-        ensures { result ≡ message_of rest.now place }
-    {
-        match id {
-            State::ID => {
-                let (_, flags) = kind::read::<State>(rest, place)?;
-                Ok(Message::Known(Record::State(flags)))
-            }
-            Control::ID => {
-                let (_, word) = kind::read::<Control>(rest, place)?;
-                Ok(Message::Known(Record::Control(word)))
-            }
-            EditValue::ID => {
+        let record = match id {
+            STATE_ID => Record::State(kind::read::<State>(rest, place)?.1),
+            CONTROL_ID => Record::Control(kind::read::<Control>(rest, place)?.1),
+            EDIT_VALUE_ID => {
                 let (actor, target) = kind::read::<EditValue>(rest, place)?;
-                Ok(Message::Known(Record::EditValue { actor, target }))
+                Record::EditValue { actor, target }
             }
-            RealValue::ID => {
+            REAL_VALUE_ID => {
                 let (actor, actual) = kind::read::<RealValue>(rest, place)?;
-                Ok(Message::Known(Record::RealValue { actor, actual }))
+                Record::RealValue { actor, actual }
             }
             Event::ID => {
                 let (actor, key) = kind::read::<Event>(rest, place)?;
-                Ok(Message::Known(Record::Event { actor, key }))
+                Record::Event { actor, key }
             }
-            Temperature::ID => {
-                let (_, reading) = kind::read::<Temperature>(rest, place)?;
-                Ok(Message::Known(Record::Temperature(reading)))
-            }
-            other => Ok(Message::Unknown(other)),
-        }
+            Temperature::ID => Record::Temperature(kind::read::<Temperature>(rest, place)?.1),
+            other => return Ok(Message::Unknown(other)),
+        };
+        Ok(Message::Known(record))
     }
 }

@@ -9,7 +9,7 @@ use crate::words::DESCRIPTOR_LEN;
 use fault::Fault;
 
 // A place in a payload: at the first byte of a message, or at the end.
-#[derive(Clone, Copy)]
+#[derive(Clone, Copy, PartialEq, Eq, Debug)]
 pub struct Cursor<'a> {
     payload: &'a [u8],
     place: usize,
@@ -45,7 +45,8 @@ impl<'a> Cursor<'a> {
         }
     }
 
-    // The next message and its offset, or nothing at the end. The cursor stays where a message does not read.
+    // The next message and its offset, or nothing at the end. The cursor stays where a message does not read:
+    // as an `Iterator` it would give that fault without end.
     pub fn next(&mut self) -> Result<Option<(usize, Message)>, Fault>
         ensures answer { result ≡ next_of self.old.payload.now self.old.place }
         ensures payload { self.new.payload.now ≡ self.old.payload.now }

@@ -34,7 +34,7 @@ impl Descriptor {
         ensures answer { result ≡ descriptor_of payload.now }
         ensures sized { OnOk result ((16 ≤ length payload.now) × (length payload.now ≤ 1472)) }
     {
-        let [
+        let &[
             id_lo,
             id_hi,
             len_lo,
@@ -59,22 +59,22 @@ impl Descriptor {
         if payload.len() > PAYLOAD_MOST {
             return Err(Fault::Frame(FrameFault::Length, 0));
         }
-        if u16::from_le_bytes([*id_lo, *id_hi]) != FRAME_ID {
+        if u16::from_le_bytes([id_lo, id_hi]) != FRAME_ID {
             return Err(Fault::Frame(FrameFault::FrameId, 0));
         }
-        if u16::from_le_bytes([*len_lo, *len_hi]) as usize != payload.len() {
+        if u16::from_le_bytes([len_lo, len_hi]) as usize != payload.len() {
             return Err(Fault::Frame(FrameFault::FrameLength, 2));
         }
-        if *major != MAJOR_VERSION {
+        if major != MAJOR_VERSION {
             return Err(Fault::Frame(FrameFault::MajorVersion, 4));
         }
         Ok(Descriptor {
-            version: u16::from_le_bytes([*minor, *major]),
-            number: u16::from_le_bytes([*number_lo, *number_hi]),
-            project: u16::from_le_bytes([*project_lo, *project_hi]),
-            firmware: u16::from_le_bytes([*firmware_lo, *firmware_hi]),
-            switch: u16::from_le_bytes([*switch_lo, *switch_hi]),
-            design: u16::from_le_bytes([*design_lo, *design_hi]),
+            version: u16::from_le_bytes([minor, major]),
+            number: u16::from_le_bytes([number_lo, number_hi]),
+            project: u16::from_le_bytes([project_lo, project_hi]),
+            firmware: u16::from_le_bytes([firmware_lo, firmware_hi]),
+            switch: u16::from_le_bytes([switch_lo, switch_hi]),
+            design: u16::from_le_bytes([design_lo, design_hi]),
         })
     }
 
