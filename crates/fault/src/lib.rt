@@ -1,55 +1,59 @@
 // Every refusal: the layer that refused, why, and at which place.
 #![tactic(auto)]
 
-ghost use Rattle.std.specs.Prelude.{◌≡◌};
+ghost use Rattle.std.specs.Prelude.{◌≡◌, Some};
 ghost use Rattle.fault.specs.Table.{Telling, layer_of, number_of, place_of};
+ghost use Rattle.fault.specs.Written.{fault_text, layer_name};
 
-// What is wrong with a packet's descriptor.
+use std::error::Error;
+use std::fmt;
+
+// What is wrong with a packet's descriptor. Each refusal's number is that of its case, here and below.
 #[derive(Clone, Copy, PartialEq, Eq, Debug)]
 pub enum FrameFault {
-    Length,
-    FrameId,
-    FrameLength,
-    MajorVersion,
-    Project,
-    Switch,
+    Length = 1,
+    FrameId = 2,
+    FrameLength = 3,
+    MajorVersion = 4,
+    Project = 5,
+    Switch = 6,
 }
 
 // What is wrong with one message of a packet.
 #[derive(Clone, Copy, PartialEq, Eq, Debug)]
 pub enum MessageFault {
-    Broken,
-    KindLength,
-    ActorRule,
+    Broken = 7,
+    KindLength = 8,
+    ActorRule = 9,
 }
 
 // What is wrong with the actor that a message or a question names.
 #[derive(Clone, Copy, PartialEq, Eq, Debug)]
 pub enum ActorFault {
-    NotListed,
+    NotListed = 10,
 }
 
 // What an actor store, or the opening of one, refuses.
 #[derive(Clone, Copy, PartialEq, Eq, Debug)]
 pub enum StoreFault {
-    UnknownActor,
-    ForbiddenValue,
-    ListLength,
-    ListEntry,
-    Image,
+    UnknownActor = 11,
+    ForbiddenValue = 12,
+    ListLength = 16,
+    ListEntry = 17,
+    Image = 21,
 }
 
 // What a call refuses for reasons of its own.
 #[derive(Clone, Copy, PartialEq, Eq, Debug)]
 pub enum CallFault {
-    ControlWord,
-    SwitchTaken,
-    HubFull,
-    SlipOpen,
-    NothingOutstanding,
-    ShortBuffer,
-    NoSlip,
-    HexLine,
+    ControlWord = 13,
+    SwitchTaken = 14,
+    HubFull = 15,
+    SlipOpen = 18,
+    NothingOutstanding = 19,
+    ShortBuffer = 20,
+    NoSlip = 22,
+    HexLine = 23,
 }
 
 // A refusal. The place is a byte offset or a list index, and 0 where neither applies.
@@ -79,37 +83,11 @@ impl Fault {
         ensures telling { Telling }
     {
         match self {
-            Fault::Frame(fault, _) => match fault {
-                FrameFault::Length => 1,
-                FrameFault::FrameId => 2,
-                FrameFault::FrameLength => 3,
-                FrameFault::MajorVersion => 4,
-                FrameFault::Project => 5,
-                FrameFault::Switch => 6,
-            },
-            Fault::Message(fault, _) => match fault {
-                MessageFault::Broken => 7,
-                MessageFault::KindLength => 8,
-                MessageFault::ActorRule => 9,
-            },
-            Fault::Actor(ActorFault::NotListed, _) => 10,
-            Fault::Store(fault, _) => match fault {
-                StoreFault::UnknownActor => 11,
-                StoreFault::ForbiddenValue => 12,
-                StoreFault::ListLength => 16,
-                StoreFault::ListEntry => 17,
-                StoreFault::Image => 21,
-            },
-            Fault::Call(fault, _) => match fault {
-                CallFault::ControlWord => 13,
-                CallFault::SwitchTaken => 14,
-                CallFault::HubFull => 15,
-                CallFault::SlipOpen => 18,
-                CallFault::NothingOutstanding => 19,
-                CallFault::ShortBuffer => 20,
-                CallFault::NoSlip => 22,
-                CallFault::HexLine => 23,
-            },
+            Fault::Frame(fault, _) => fault as u8,
+            Fault::Message(fault, _) => fault as u8,
+            Fault::Actor(fault, _) => fault as u8,
+            Fault::Store(fault, _) => fault as u8,
+            Fault::Call(fault, _) => fault as u8,
         }
     }
 
@@ -131,11 +109,38 @@ impl Fault {
         ensures { result ≡ place_of self }
     {
         match self {
-            Fault::Frame(_, place) => place,
-            Fault::Message(_, place) => place,
-            Fault::Actor(_, place) => place,
-            Fault::Store(_, place) => place,
-            Fault::Call(_, place) => place,
+            Fault::Frame(_, place)
+            | Fault::Message(_, place)
+            | Fault::Actor(_, place)
+            | Fault::Store(_, place)
+            | Fault::Call(_, place) => place,
         }
     }
 }
+
+impl fmt::Display for Layer {
+    ghost output = { λ layer. Some (layer_name layer) };
+
+    fn fmt<W: fmt::Write>(&self, f: &mut fmt::Formatter<W>) -> fmt::Result {
+        match *self {
+            Layer::Frame => write!(f, "frame"),
+            Layer::Message => write!(f, "message"),
+            Layer::Actor => write!(f, "actor"),
+            Layer::Store => write!(f, "store"),
+            Layer::Call => write!(f, "call"),
+        }
+    }
+}
+
+// The number and the place, which tell the whole refusal.
+impl fmt::Display for Fault {
+    ghost output = { λ fault. Some (fault_text fault) };
+
+    fn fmt<W: fmt::Write>(&self, f: &mut fmt::Formatter<W>) -> fmt::Result {
+        let number = self.number();
+        let place = self.place();
+        write!(f, "{number} {place}")
+    }
+}
+
+impl Error for Fault {}

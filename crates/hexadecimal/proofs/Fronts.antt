@@ -1,40 +1,28 @@
--- The lengths of a line's first digits and of a text's first line, step by step.
-use Rattle.std.proofs.Common.{◌≡◌, ℕ, zero, suc, ◌+◌, ◌<◌, ◌≤◌, Bool, true, false, cond, eqb, ◌⊎◌, List, [], ◌∷◌, ◌++◌, length, get_or, take, drop, sym, refl, ap, ◌∙◌, inl, inr, arith}
-use Rattle.std.proofs.lemmas.List.{at_drop_more, at_drop_all, length-append}
-use Rattle.std.proofs.lemmas.Bool.{cond-true, cond-false, eq-eqb, ne_eqb, eqb-true, eqb-false}
+-- Where a line's first digits and a text's first line end.
+use Rattle.std.proofs.Common.{◌≡◌, ℕ, zero, suc, ◌+◌, ◌<◌, ◌≤◌, Bool, true, false, Option, cond, not, eqb, ◌==◌, ◌⊎◌, List, [], ◌∷◌, ◌++◌, length, take, drop, sym, refl, ap, ◌∙◌, inl, inr, add-one, arith}
+use Rattle.std.specs.List.{position, position_or_len}
+use Rattle.std.specs.Option.{unwrap_or}
+use Rattle.std.proofs.lemmas.List.{drop_all, length-append, take_all}
+use Rattle.std.proofs.lemmas.List.Recursion.{is_position_or_len}
+use Rattle.std.proofs.lemmas.List.Sums.{prefix_len-le-length}
+use Rattle.std.proofs.lemmas.Bool.Decides.{nat_tests}
+use Rattle.std.proofs.lemmas.Bool.{eqb-true, eqb-false}
 use Rattle.hexadecimal.specs.Digit.{is_digit}
 use Rattle.hexadecimal.specs.Decoding.{digits_ahead}
-use Rattle.hexadecimal.specs.Lines.{line_feed, length_to, line_length, Without, FirstLine, Shorter}
+use Rattle.hexadecimal.specs.Lines.{line_feed, length_to, line_length, line_of, rest_of, begun_with, lines_of, Without, FirstLine, Shorter}
 
-pub digits_more : (s : List ℕ) (i : ℕ) → i < length s → is_digit (get_or s i 0) ≡ true → digits_ahead (drop i s) ≡ 1 + digits_ahead (drop (i + 1) s)
-unfolding digits_ahead
-digits_more s i h t = at_drop_more digits_ahead s i 0 h ∙ cond-true _ _ _ t
+-- the place that `position` tells, or the whole length where it tells none
+pub place_or_length : (p : ℕ → Bool) (s : List ℕ) {o : Option ℕ} {r : ℕ} → r ≡ unwrap_or o (length s) → o ≡ position p s → r ≡ position_or_len p s
+place_or_length p s h e = let w = prefix_len-le-length (λ x. not (p x)) s in grind (arith, nat_tests)
 
-pub digits_stop : (s : List ℕ) (i : ℕ) → i < length s → is_digit (get_or s i 0) ≡ false → digits_ahead (drop i s) ≡ 0
-unfolding digits_ahead
-digits_stop s i h t = at_drop_more digits_ahead s i 0 h ∙ cond-false _ _ _ t
-
-pub digits_all : (s : List ℕ) (i : ℕ) → length s ≤ i → digits_ahead (drop i s) ≡ 0
-unfolding digits_ahead
-digits_all s i h = at_drop_all digits_ahead s i h
-
-pub length_more : (b : ℕ) (s : List ℕ) (i : ℕ) → i < length s → (get_or s i 0 ≡ b → ⊥) → length_to b (drop i s) ≡ suc (length_to b (drop (i + 1) s))
+-- the first separator, and the first byte that is no digit, are where `position` finds them
+pub length_found : (b : ℕ) (s : List ℕ) → length_to b s ≡ position_or_len (λ c. c == b) s
 unfolding length_to
-length_more b s i h ne = at_drop_more (length_to b) s i 0 h ∙ cond-false _ _ _ (ne_eqb _ _ ne)
+length_found b s = is_position_or_len (length_to b) (λ c. c == b) refl (λ c t. grind arith) s
 
-pub length_stop : (b : ℕ) (s : List ℕ) (i : ℕ) → i < length s → get_or s i 0 ≡ b → length_to b (drop i s) ≡ 0
-unfolding length_to
-length_stop b s i h e = at_drop_more (length_to b) s i 0 h ∙ cond-true _ _ _ (eq-eqb _ _ e)
-
-pub length_all : (b : ℕ) (s : List ℕ) (i : ℕ) → length s ≤ i → length_to b (drop i s) ≡ 0
-unfolding length_to
-length_all b s i h = at_drop_all (length_to b) s i h
-
--- a line ends at the first line feed
-pub line_ends : (s : List ℕ) → length_to line_feed s ≡ line_length s
-unfolding length_to line_length
-line_ends [] = refl
-line_ends (b ∷ s) = ap (λ n. cond (eqb b line_feed) 0 (suc n)) (line_ends s)
+pub digits_found : (s : List ℕ) → digits_ahead s ≡ position_or_len (λ c. not (is_digit c)) s
+unfolding digits_ahead
+digits_found s = is_position_or_len digits_ahead (λ c. not (is_digit c)) refl (λ c t. grind arith) s
 
 -- no line feed stands before the first one
 plain_more : (b : ℕ) (s : List ℕ) → (b ≡ line_feed → ⊥) → Without line_feed s → Without line_feed (b ∷ s)
@@ -50,13 +38,17 @@ first_by b s n ih true e = record { plain = λ k h _. omega arith; whole = inl (
 first_by b s n ih false e = record { plain = plain_more b (take n s) (eqb-false b line_feed e) ih.plain; whole = whole_more b s (take n s) (drop (suc n) s) ih.whole }
 
 pub first_line : (s : List ℕ) → FirstLine s (take (line_length s) s) (drop (suc (line_length s)) s)
-unfolding line_length
+unfolding length_to
 first_line [] = record { plain = λ k h _. omega arith; whole = inr (refl, refl) }
 first_line (b ∷ s) = first_by b s (line_length s) (first_line s) (eqb b line_feed) refl
 
 pub first_at : (s : List ℕ) (n : ℕ) → n ≡ line_length s → FirstLine s (take n s) (drop (n + 1) s)
 first_at s n e =
     let d : n + 1 ≡ suc (line_length s) = omega arith in rw (d, e) (first_line s)
+
+-- a text without a line feed is one line
+pub one_line : (s : List ℕ) (n : ℕ) → n ≡ line_length s → length s ≤ n → FirstLine s s []
+one_line s n e long = let past : length s ≤ n + 1 = omega arith in rw take_all at (rw drop_all at (first_at s n e))
 
 sizes : (s line rest : List ℕ) → (s ≡ line ++ line_feed ∷ rest) ⊎ ((s ≡ line) × (rest ≡ [])) → (length line + 1 + length rest ≡ length s) ⊎ ((length line ≡ length s) × (length rest ≡ 0))
 sizes s line rest (inl e) = let n = ap length e ∙ length-append line (line_feed ∷ rest) in inl (omega arith)
@@ -68,3 +60,20 @@ falls_by s line rest some (inr e) = omega arith
 
 pub shorter_since : (s line rest : List ℕ) → 0 < length s → FirstLine s line rest → Shorter s line rest
 shorter_since s line rest some first = let n = sizes s line rest first.whole in record { falls = falls_by s line rest some n; adds = n }
+
+-- The lines of a text that is not empty are its first line and the lines of the rest.
+lines_by : (b : ℕ) (s : List ℕ) (t : Bool) → (0 < length s → lines_of s ≡ line_of s ∷ lines_of (rest_of s)) → cond t ([] ∷ lines_of s) (begun_with b (lines_of s)) ≡ take (cond t 0 (suc (line_length s))) (b ∷ s) ∷ lines_of (drop (suc (cond t 0 (suc (line_length s)))) (b ∷ s))
+unfolding lines_of length_to
+lines_by b s true more = refl
+lines_by b [] false more = refl
+lines_by b (c ∷ s) false more = rw (more (omega arith), add-one)
+
+pub lines_step : (s : List ℕ) → 0 < length s → lines_of s ≡ line_of s ∷ lines_of (rest_of s)
+unfolding lines_of length_to
+lines_step [] some = absurd (omega arith)
+lines_step (b ∷ s) some = rw add-one (lines_by b s (b == line_feed) (lines_step s))
+
+pub lines_none : (s : List ℕ) → length s ≡ 0 → lines_of s ≡ []
+unfolding lines_of
+lines_none [] e = refl
+lines_none (b ∷ s) e = absurd (omega arith)

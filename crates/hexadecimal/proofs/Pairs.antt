@@ -1,5 +1,7 @@
 -- The bytes of a line and the digits of bytes, place by place.
-use Rattle.std.proofs.Common.{◌≡◌, ℕ, zero, suc, ◌+◌, ◌*◌, ◌/◌, ◌%◌, ◌<◌, List, [], ◌∷◌, length, get_or, sym, refl, ap, ◌∙◌, ap₂, arith}
+use Rattle.std.proofs.Common.{◌≡◌, ℕ, zero, suc, ◌+◌, ◌*◌, ◌/◌, ◌%◌, ◌<◌, List, [], ◌∷◌, ◌++◌, length, get_or, take, drop, set, refl, ap, ◌∙◌, add-one, arith}
+use Rattle.std.proofs.lemmas.List.{take_more}
+use Rattle.std.specs.Simd.{first_chunks}
 use Rattle.hexadecimal.specs.Digit.{value_of, digit_for}
 use Rattle.hexadecimal.specs.Decoding.{bytes_of}
 use Rattle.hexadecimal.specs.Encoding.{digits_of}
@@ -11,33 +13,35 @@ length_bytes_of (a ∷ []) n h = absurd (omega arith)
 length_bytes_of (a ∷ b ∷ s) zero h = absurd (omega arith)
 length_bytes_of (a ∷ b ∷ s) (suc n) h = ap suc (length_bytes_of s n (omega arith))
 
-pub get_or_bytes_of : (s : List ℕ) (i : ℕ) → 2 * i + 1 < length s → get_or (bytes_of s) i 0 ≡ value_of (get_or s (2 * i) 0) * 16 + value_of (get_or s (2 * i + 1) 0)
+pub get_or_bytes_of : (s : List ℕ) (n i : ℕ) → length s ≡ 2 * n → i < n → get_or (bytes_of s) i 0 ≡ value_of (get_or (get_or (first_chunks 2 n s) i []) 0 0) * 16 + value_of (get_or (get_or (first_chunks 2 n s) i []) 1 0)
 unfolding bytes_of
-get_or_bytes_of [] i h = absurd (omega arith)
-get_or_bytes_of (a ∷ []) i h = absurd (omega arith)
-get_or_bytes_of (a ∷ b ∷ s) zero h = refl
-get_or_bytes_of (a ∷ b ∷ s) (suc i) h =
-    let x : 2 * suc i ≡ suc (suc (2 * i)) = omega arith in
-    let y : 2 * suc i + 1 ≡ suc (suc (2 * i + 1)) = omega arith in
-    get_or_bytes_of s i (omega arith) ∙ ap₂ (λ (u v : ℕ). value_of (get_or (a ∷ b ∷ s) u 0) * 16 + value_of (get_or (a ∷ b ∷ s) v 0)) (sym x) (sym y)
+get_or_bytes_of [] n i even h = absurd (omega arith)
+get_or_bytes_of (a ∷ []) n i even h = absurd (omega arith)
+get_or_bytes_of (a ∷ b ∷ s) zero i even h = absurd (omega arith)
+get_or_bytes_of (a ∷ b ∷ s) (suc n) zero even h = refl
+get_or_bytes_of (a ∷ b ∷ s) (suc n) (suc i) even h = get_or_bytes_of s n i (omega arith) (omega arith)
 
 pub length_digits_of : (s : List ℕ) → length (digits_of s) ≡ 2 * length s
 unfolding digits_of
 length_digits_of [] = refl
 length_digits_of (b ∷ s) = let ih = length_digits_of s in omega arith
 
-pub get_or_digits_of_high : (s : List ℕ) (i : ℕ) → i < length s → get_or (digits_of s) (2 * i) 0 ≡ digit_for (get_or s i 0 / 16)
+-- one more byte, two more digits
+digits_append : (s t : List ℕ) → digits_of (s ++ t) ≡ digits_of s ++ digits_of t
 unfolding digits_of
-get_or_digits_of_high [] i h = absurd (omega arith)
-get_or_digits_of_high (b ∷ s) zero h = refl
-get_or_digits_of_high (b ∷ s) (suc i) h =
-    let x : 2 * suc i ≡ suc (suc (2 * i)) = omega arith in
-    ap (λ (u : ℕ). get_or (digits_of (b ∷ s)) u 0) x ∙ get_or_digits_of_high s i (omega arith)
+digits_append [] t = refl
+digits_append (b ∷ s) t = ap (λ ds. digit_for (b / 16) ∷ digit_for (b % 16) ∷ ds) (digits_append s t)
 
-pub get_or_digits_of_low : (s : List ℕ) (i : ℕ) → i < length s → get_or (digits_of s) (2 * i + 1) 0 ≡ digit_for (get_or s i 0 % 16)
+pub digits_more : (s : List ℕ) (i : ℕ) → i < length s → digits_of (take (i + 1) s) ≡ digits_of (take i s) ++ digit_for (get_or s i 0 / 16) ∷ digit_for (get_or s i 0 % 16) ∷ []
 unfolding digits_of
-get_or_digits_of_low [] i h = absurd (omega arith)
-get_or_digits_of_low (b ∷ s) zero h = refl
-get_or_digits_of_low (b ∷ s) (suc i) h =
-    let x : 2 * suc i + 1 ≡ suc (suc (2 * i + 1)) = omega arith in
-    ap (λ (u : ℕ). get_or (digits_of (b ∷ s)) u 0) x ∙ get_or_digits_of_low s i (omega arith)
+digits_more s i h = ap digits_of (take_more s i 0 h) ∙ digits_append (take i s) (get_or s i 0 ∷ [])
+
+-- two writes behind the digits so far
+pub both_written : (ds out : List ℕ) (n m high low : ℕ) → length ds ≡ n → m ≡ n + 1 → m < length out → set (set (ds ++ drop n out) n high) m low ≡ (ds ++ high ∷ low ∷ []) ++ drop (m + 1) out
+both_written ds [] n m high low e f h = absurd (omega arith)
+both_written ds (x ∷ []) n m high low e f h = absurd (omega arith)
+both_written [] (x ∷ y ∷ out) zero m high low e f h = rw f refl
+both_written [] (x ∷ y ∷ out) (suc n) m high low e f h = absurd (omega arith)
+both_written (d ∷ ds) (x ∷ out) zero m high low e f h = absurd (omega arith)
+both_written (d ∷ ds) (x ∷ out) (suc n) zero high low e f h = absurd (omega arith)
+both_written (d ∷ ds) (x ∷ out) (suc n) (suc m) high low e f h = rw add-one (ap (λ (l : List ℕ). d ∷ l) (both_written ds out n m high low (omega arith) (omega arith) (omega arith) ∙ rw add-one refl))

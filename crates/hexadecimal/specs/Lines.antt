@@ -1,4 +1,4 @@
--- The first line of a text and what follows it.
+-- The first line of a text and what follows it, and all of its lines.
 use Rattle.std.specs.Prelude.{◌≡◌, ℕ, suc, ◌+◌, ◌<◌, cond, ◌⊎◌, List, [], ◌∷◌, ◌++◌, length, take, drop, ◌==◌, ◌≢◌, slice_index}
 
 abbrev pub line_feed : ℕ
@@ -10,9 +10,8 @@ length_to separator [] = 0
 length_to separator (b ∷ text) = cond (b == separator) 0 (suc (length_to separator text))
 
 -- how many bytes stand before the first line feed
-unfoldable pub line_length : List ℕ → ℕ
-line_length [] = 0
-line_length (b ∷ text) = cond (b == line_feed) 0 (suc (line_length text))
+abbrev pub line_length : List ℕ → ℕ
+line_length = length_to line_feed
 
 -- the line is what stands before that line feed, and the rest what stands after it
 abbrev pub line_of : List ℕ → List ℕ
@@ -33,3 +32,17 @@ pub record FirstLine (text line rest : List ℕ) : Type 0 where
 pub record Shorter (text line rest : List ℕ) : Type 0 where
   pub falls : length rest < length text
   pub adds : (length line + 1 + length rest ≡ length text) ⊎ ((length line ≡ length text) × (length rest ≡ 0))
+
+-- a byte begins the first of the lines that follow it, and a line of its own where none does
+abbrev pub begun_with : ℕ → List (List ℕ) → List (List ℕ)
+begun_with b [] = (b ∷ []) ∷ []
+begun_with b (line ∷ lines) = (b ∷ line) ∷ lines
+
+-- The lines of a text: each line feed ends one, and the last one may lack it.
+unfoldable pub lines_of : List ℕ → List (List ℕ)
+lines_of [] = []
+lines_of (b ∷ text) = cond (b == line_feed) ([] ∷ lines_of text) (begun_with b (lines_of text))
+
+-- So the lines of a text are its first line and the lines of the rest.
+abbrev pub LineByLine : List ℕ → Type 0
+LineByLine text = 0 < length text → lines_of text ≡ line_of text ∷ lines_of (rest_of text)

@@ -1,19 +1,12 @@
 // One hexadecimal digit, and the half byte that it stands for.
 ghost use Rattle.std.specs.Prelude.{◌≡◌, ◌+◌, ◌*◌, ◌/◌, ◌%◌, ◌<◌};
-ghost use Rattle.hexadecimal.specs.Digit.{is_digit, value_of, digit_for};
+ghost use Rattle.hexadecimal.specs.Digit.{value_of, digit_for};
 
 // The digits that are written, in the order of what they stand for.
 const CAPITALS: [u8; 16] = *b"0123456789ABCDEF";
 
-pub(crate) fn is_digit(c: u8) -> bool
-    ensures { result ≡ is_digit c }
-{
-    match c {
-        b'0'..=b'9' | b'A'..=b'F' | b'a'..=b'f' => true,
-        _ => false,
-    }
-}
-
+// What a digit stands for, and 0 of any other byte. The library's `to_digit` would have to go by way of a
+// `char`, an `Option` and a `u32`.
 fn value(c: u8) -> u8
     ensures answer { result ≡ value_of c }
     ensures half { result < 16 }
@@ -38,7 +31,7 @@ fn capital(half: u8) -> u8
     requires { half < 16 }
     ensures { result ≡ digit_for half }
 {
-    CAPITALS[half as usize]
+    CAPITALS[usize::from(half)]
 }
 
 // The two digits that spell a byte.

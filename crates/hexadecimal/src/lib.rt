@@ -6,6 +6,6 @@ mod lines;
 mod reading;
 mod writing;
 
-pub use lines::{length_to, next_line};
+pub use lines::{Lines, length_to, next_line};
 pub use reading::decode;
-pub use writing::encode;
+pub use writing::{Digits, encode};

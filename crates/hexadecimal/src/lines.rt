@@ -1,6 +1,9 @@
 // A text taken apart line by line.
-ghost use Rattle.std.specs.Prelude.{◌≡◌, ◌<◌, ◌≤◌, length, MatchOption};
-ghost use Rattle.hexadecimal.specs.Lines.{length_to, line_length, line_of, rest_of, FirstLine, Shorter};
+ghost use Rattle.std.specs.Prelude.{◌≡◌, ℕ, ◌<◌, ◌≤◌, List, length, MatchOption};
+ghost use Rattle.std.specs.Iterator.{YieldsFirstRef, at_most};
+ghost use Rattle.hexadecimal.specs.Lines.{length_to, line_of, rest_of, lines_of, FirstLine, LineByLine, Shorter};
+
+use std::marker::Model;
 
 const LINE_FEED: u8 = b'\n';
 
@@ -9,23 +12,13 @@ pub fn length_to(text: &[u8], separator: u8) -> usize
     ensures answer { result ≡ length_to separator text.now }
     ensures within { result ≤ length text.now }
 {
-    for (i, b) in text.iter().enumerate() {
-        if *b == separator {
-            return i;
-        }
-    }
-    text.len()
-}
-
-// How many bytes stand before the first line feed.
-fn line_length(text: &[u8]) -> usize
-    ensures answer { result ≡ line_length text.now }
-    ensures within { result ≤ length text.now }
-{
-    length_to(text, LINE_FEED)
+    text.iter()
+        .position(|b| *b == separator)
+        .unwrap_or(text.len())
 }
 
 // The first line of a text that has one, and what follows its line feed.
+#[tactic(auto, using(crate::proofs::Fronts::first_at, crate::proofs::Fronts::shorter_since))]
 fn cut(text: &[u8]) -> (&[u8], &[u8])
     requires { 0 < length text.now }
     ensures line { result.0.now ≡ line_of text.now }
@@ -33,7 +26,7 @@ fn cut(text: &[u8]) -> (&[u8], &[u8])
     ensures first { FirstLine text.now result.0.now result.1.now }
     ensures shorter { Shorter text.now result.0.now result.1.now }
 {
-    let end = line_length(text);
+    let end = length_to(text, LINE_FEED);
     if end < text.len() {
         (&text[..end], &text[end + 1..])
     } else {
@@ -52,5 +45,50 @@ pub fn next_line(text: &[u8]) -> Option<(&[u8], &[u8])>
         None
     } else {
         Some(cut(text))
+    }
+}
+
+// The lines of a text, first to last, as `next_line` takes them off. What a contract sees of it is the text that is left.
+#[derive(Clone, Debug, Drop)]
+pub struct Lines<'a> {
+    left: &'a [u8],
+}
+
+impl<'a> Model for Lines<'a> {
+    ghost Value = { List ℕ };
+
+    ghost view = { λ lines. lines.left.now };
+}
+
+impl<'a> Lines<'a> {
+    #[tactic(auto, using(crate::proofs::Fronts::lines_step))]
+    pub fn new(text: &'a [u8]) -> Lines<'a>
+        ensures text { result ≡ text.now }
+        ensures lines { LineByLine text.now }
+    {
+        Lines { left: text }
+    }
+
+    // The text behind the lines that were taken so far.
+    pub fn rest(&self) -> &'a [u8]
+        ensures { result.now ≡ self.now }
+    {
+        self.left
+    }
+}
+
+impl<'a> Iterator for Lines<'a> {
+    type Item = &'a [u8];
+
+    ghost next_gives = { YieldsFirstRef lines_of };
+
+    // There are no more lines than bytes.
+    ghost remaining = { λ text. at_most (length text) };
+
+    #[tactic(auto, using(crate::proofs::Fronts::lines_step, crate::proofs::Fronts::lines_none))]
+    fn next(&mut self) -> Option<&'a [u8]> {
+        let (line, rest) = next_line(self.left)?;
+        self.left = rest;
+        Some(line)
     }
 }

@@ -2,7 +2,7 @@
 ghost use Rattle.std.specs.Prelude.{◌≡◌, ◌*◌, ◌≤◌, length, IfOk};
 ghost use Rattle.hexadecimal.specs.Decoding.{digits_ahead, bytes_of, decode_tells, decode_leaves, Faithful};
 
-use crate::digit::{is_digit, joined};
+use crate::digit::joined;
 use fault::{CallFault, Fault};
 
 // Two digits for each byte of the longest payload.
@@ -12,12 +12,9 @@ const LONGEST: usize = 2944;
 fn digits_ahead(line: &[u8]) -> usize
     ensures { result ≡ digits_ahead line.now }
 {
-    for (i, c) in line.iter().enumerate() {
-        if !is_digit(*c) {
-            return i;
-        }
-    }
-    line.len()
+    line.iter()
+        .position(|c| !c.is_ascii_hexdigit())
+        .unwrap_or(line.len())
 }
 
 // How many bytes the line spells, if it may be read into that room.
@@ -47,13 +44,16 @@ fn fill(line: &[u8], out: &mut [u8])
     requires { length line.now ≡ 2 * length out.old }
     ensures { out.new ≡ bytes_of line.now }
 {
+    let (pairs, _) = line.as_chunks::<2>();
     for (i, byte) in out.iter_mut().enumerate() {
-        *byte = joined(line[2 * i], line[2 * i + 1]);
+        let [high, low] = pairs[i];
+        *byte = joined(high, low);
     }
 }
 
 // Reads a line of digits of either case into the buffer, and tells how many bytes it spells. A refusal leaves
 // the buffer as it was.
+#[tactic(auto, using(crate::proofs::Spelling::decode_faithful))]
 pub fn decode(line: &[u8], out: &mut [u8]) -> Result<usize, Fault>
     ensures answer { result ≡ decode_tells line.now (length out.old) }
     ensures buffer { out.new ≡ decode_leaves line.now out.old }

@@ -1,10 +1,11 @@
 // Bytes to a line of upper-case digits.
-ghost use Rattle.std.specs.Prelude.{◌≡◌, ◌*◌, ◌≤◌, ◌++◌, length, take, drop, IfOk};
+ghost use Rattle.std.specs.Prelude.{◌≡◌, ◌*◌, ◌≤◌, ◌++◌, length, take, drop, IfOk, Some};
 ghost use Rattle.hexadecimal.specs.Decoding.{Spells};
 ghost use Rattle.hexadecimal.specs.Encoding.{digits_of, encode_tells, encode_leaves, ReadsBack};
 
 use crate::digit::parted;
 use fault::{CallFault, Fault};
+use std::fmt;
 
 // Writes two digits for each byte.
 fn spell(bytes: &[u8], out: &mut [u8])
@@ -13,10 +14,9 @@ fn spell(bytes: &[u8], out: &mut [u8])
     ensures spelt { Spells (take (2 * length bytes.now) out.new) bytes.now }
     ensures back { ReadsBack (take (2 * length bytes.now) out.new) bytes.now }
 {
+    // By places: once the loop is over, no proof knows what was written through `chunks_exact_mut`.
     for (i, byte) in bytes.iter().enumerate() {
-        let (high, low) = parted(*byte);
-        out[2 * i] = high;
-        out[2 * i + 1] = low;
+        (out[2 * i], out[2 * i + 1]) = parted(*byte);
     }
 }
 
@@ -33,4 +33,19 @@ pub fn encode(bytes: &[u8], out: &mut [u8]) -> Result<usize, Fault>
     }
     spell(bytes, out);
     Ok(2 * bytes.len())
+}
+
+// Bytes that write themselves as upper-case digits, two for each.
+#[derive(Clone, Copy, PartialEq, Eq, Debug)]
+pub struct Digits<'a>(pub &'a [u8]);
+
+impl fmt::Display for Digits<'_> {
+    ghost output = { λ digits. Some (digits_of digits.0.now) };
+
+    fn fmt<W: fmt::Write>(&self, f: &mut fmt::Formatter<W>) -> fmt::Result {
+        for &byte in self.0 {
+            write!(f, "{byte:02X}")?;
+        }
+        Ok(())
+    }
 }

@@ -1,4 +1,5 @@
 pub mod Words
+pub mod Sorts
 pub mod Messages
 pub mod Reading
 pub mod Grammar

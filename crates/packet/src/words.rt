@@ -1,7 +1,9 @@
 // The descriptor that begins every payload: eight words in sixteen bytes.
 ghost use Rattle.std.specs.Prelude.{◌≡◌, ◌≤◌, length, OnOk};
+ghost use Rattle.packet.specs.Sorts.{sort_of};
 ghost use Rattle.packet.specs.Words.{descriptor_of};
 
+use crate::sorts::Sort;
 use fault::{Fault, FrameFault};
 
 // The FrameID of every packet of this protocol.
@@ -74,5 +76,15 @@ impl Descriptor {
             switch: u16::from_le_bytes([*switch_lo, *switch_hi]),
             design: u16::from_le_bytes([*design_lo, *design_hi]),
         })
+    }
+
+    // Whether the packet is an event or an answer, and to which packet.
+    pub fn sort(self) -> Sort
+        ensures { result ≡ sort_of self.number }
+    {
+        match self.number {
+            0 => Sort::Event,
+            number => Sort::Answer(number),
+        }
     }
 }

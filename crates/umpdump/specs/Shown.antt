@@ -1,9 +1,7 @@
 -- What is shown of a packet and of its messages.
-use Rattle.std.specs.Prelude.{ℕ, zero, suc, Bool, true, false, cond, not, List, [], ℤ, pos, negsuc, Some, None, codes, Option, ◌==◌, bit_and}
+use Rattle.std.specs.Prelude.{ℕ, zero, suc, Bool, true, false, not, List, [], ℤ, pos, negsuc, Some, None, codes, Option, ◌==◌, bit_and}
 use Rattle.packet.specs.declared.records.Record.{Record}
 use Rattle.packet.specs.declared.records.Record.TheVariants.{State, Control, EditValue, RealValue, Event, Temperature}
-use Rattle.umpdump.specs.declared.heading.Sort.{Sort}
-use Rattle.umpdump.specs.declared.heading.Sort.TheVariants as sort
 
 -- a number with its sign; zero has none
 abbrev pub signed : Bool → ℕ → ℤ
@@ -18,10 +16,6 @@ is_below (negsuc n) = true
 abbrev pub sign_of : Bool → List ℕ
 sign_of false = []
 sign_of true = codes "-"
-
--- package number 0 is an event's, any other is the number of what is answered
-abbrev pub sort_of : ℕ → Sort
-sort_of number = cond (number == 0) sort.Event (sort.Answer number)
 
 -- bit 6 of State is InitRequest
 abbrev pub asks_init : ℕ → Bool

@@ -5,7 +5,7 @@ ghost use Rattle.umpdump.specs.Shown.{is_below, signed, sign_of};
 use std::fmt;
 
 // A sign, whole degrees and one digit after the point.
-#[derive(Clone, Copy)]
+#[derive(Clone, Copy, PartialEq, Eq, Debug)]
 pub struct Degrees {
     below: bool,
     whole: u16,
@@ -13,6 +13,7 @@ pub struct Degrees {
 }
 
 impl Degrees {
+    // No `From<i16>`, which would not name the unit.
     pub fn of_tenths(tenths: i16) -> Degrees
         ensures value { tenths ≡ signed result.below (result.whole * 10 + result.tenth) }
         ensures sign { result.below ≡ is_below tenths }
@@ -33,8 +34,7 @@ impl fmt::Display for Degrees {
 
     fn fmt<W: fmt::Write>(&self, f: &mut fmt::Formatter<W>) -> fmt::Result {
         let sign = if self.below { "-" } else { "" };
-        let whole = self.whole;
-        let tenth = self.tenth;
+        let Degrees { whole, tenth, .. } = *self;
         write!(f, "{sign}{whole}.{tenth}")
     }
 }

@@ -12,6 +12,7 @@ mod rows;
 
 use fault::Fault;
 use heading::Heading;
+use hexadecimal::Lines;
 use packet::{Cursor, PAYLOAD_MOST, Packet};
 use rows::Row;
 use std::io;
@@ -53,22 +54,14 @@ fn show_line(rt: &impl Print, number: usize, line: &[u8]) -> io::Result<()> {
             })?;
             show_messages(rt, &buf[0..length])
         }
-        Err(fault) => {
-            let reason = fault.number();
-            let place = fault.place();
-            println!(rt; "refused {reason} {place}")
-        }
+        Err(fault) => println!(rt; "refused {fault}"),
     }
 }
 
 // Shows every line of the capture, the first one as number 1.
 fn show_all(rt: &impl Print, capture: &[u8]) -> io::Result<()> {
-    let mut left = capture;
-    let mut number = 0;
-    while let Some((line, rest)) = hexadecimal::next_line(left) {
-        number += 1;
-        show_line(rt, number, line)?;
-        left = rest;
+    for (i, line) in Lines::new(capture).enumerate() {
+        show_line(rt, i + 1, line)?;
     }
     Ok(())
 }

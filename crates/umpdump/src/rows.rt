@@ -15,6 +15,7 @@ fn asks_init(flags: u32) -> bool
     flags & INIT_REQUEST != 0
 }
 
+// A text and no `Display`, since its column is padded.
 fn kind_name(record: Record) -> &'static str
     ensures { result.now ≡ name_of «record» }
 {
@@ -33,15 +34,15 @@ fn actor_of(record: Record) -> Option<u16>
     ensures { result ≡ actor_of «record» }
 {
     match record {
-        Record::EditValue { actor, .. } => Some(actor),
-        Record::RealValue { actor, .. } => Some(actor),
-        Record::Event { actor, .. } => Some(actor),
+        Record::EditValue { actor, .. }
+        | Record::RealValue { actor, .. }
+        | Record::Event { actor, .. } => Some(actor),
         Record::State(_) | Record::Control(_) | Record::Temperature(_) => None,
     }
 }
 
 // What a record says, in its kind's own terms.
-#[derive(Clone, Copy)]
+#[derive(Clone, Copy, PartialEq, Eq, Debug)]
 struct Value(Record);
 
 impl fmt::Display for Value {
@@ -63,7 +64,7 @@ impl fmt::Display for Value {
 }
 
 // A message and the offset of its first byte in the payload.
-#[derive(Clone, Copy)]
+#[derive(Clone, Copy, PartialEq, Eq, Debug)]
 pub struct Row {
     pub offset: usize,
     pub message: Message,

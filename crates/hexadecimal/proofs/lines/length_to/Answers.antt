@@ -1,23 +1,11 @@
-use Rattle.std.proofs.Common.{◌≡◌, length, arith}
-use Rattle.hexadecimal.specs.Lines.{length_to}
-use Rattle.hexadecimal.proofs.Fronts.{length_more, length_stop, length_all}
+use Rattle.std.proofs.Common.{sym, ◌∙◌, rules}
+use borrow.Author.Tests.{tests}
+use Rattle.std.proofs.lemmas.Iterator.{YieldsList-from_slice}
+use Rattle.std.proofs.lemmas.Iterator.Search.{position_from_yields_List}
+use Rattle.hexadecimal.proofs.Fronts.{length_found, place_or_length}
 use Rattle.hexadecimal.proofs.lines.length_to.Goals as goal
 
-pub returns-then-b-separator : goal.returns-then-b-separator
-returns-then-b-separator c =
+pub returns-clause-answer : goal.returns-clause-answer
+returns-clause-answer c =
     let s = c.args.text.now in
-    let i = c.loop-i.i in
-    let end = length_stop c.args.separator s i c.loop-i-test.true c.if-b-separator.true in
-    let e : i ≡ length_to c.args.separator s = omega arith in
-    record { answer = e; within = omega arith }
-
-pub loop-i-preserved : goal.loop-i-preserved
-loop-i-preserved c = omega (arith, length_more c.args.separator c.args.text.now c.loop-i.i c.loop-i-test.true c.if-b-separator.false)
-
-pub returns : goal.returns
-returns c =
-    let s = c.args.text.now in
-    let i = c.loop-i.i in
-    let end = length_all c.args.separator s i (omega arith) in
-    let e : length s ≡ length_to c.args.separator s = omega arith in
-    record { answer = e; within = omega arith }
+    place_or_length _ s c.unwrap_or.ensures (position_from_yields_List _ _ _ _ c.position.ensures.ran (YieldsList-from_slice s (cc)) (λ x b q k. search (rules, tests))) ∙ sym (length_found c.args.separator s)

@@ -1,12 +1,11 @@
-use Rattle.std.proofs.Common.{sym, arith}
-use Rattle.hexadecimal.proofs.Fronts.{digits_more, digits_stop, digits_all}
+use Rattle.std.proofs.Common.{sym, ◌∙◌, rules}
+use borrow.Author.Tests.{tests}
+use Rattle.std.proofs.lemmas.Iterator.{YieldsList-from_slice}
+use Rattle.std.proofs.lemmas.Iterator.Search.{position_from_yields_List}
+use Rattle.hexadecimal.proofs.Fronts.{digits_found, place_or_length}
 use Rattle.hexadecimal.proofs.reading.digits_ahead.Goals as goal
 
-pub returns-then-not-is_digit : goal.returns-then-not-is_digit
-returns-then-not-is_digit c = omega (arith, digits_stop c.args.line.now c.loop-i.i c.loop-i-test.true (sym c.if-not-is_digit.ensures))
-
-pub loop-i-preserved : goal.loop-i-preserved
-loop-i-preserved c = omega (arith, digits_more c.args.line.now c.loop-i.i c.loop-i-test.true (sym c.if-not-is_digit.ensures))
-
 pub returns : goal.returns
-returns c = omega (arith, digits_all c.args.line.now c.loop-i.i (omega arith))
+returns c =
+    let s = c.args.line.now in
+    place_or_length _ s c.unwrap_or.ensures (position_from_yields_List _ _ _ _ c.position.ensures.ran (YieldsList-from_slice s (cc)) (λ x b q k. search (rules, tests))) ∙ sym (digits_found s)

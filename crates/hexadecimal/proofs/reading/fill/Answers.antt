@@ -1,7 +1,7 @@
-use Rattle.std.proofs.Common.{◌≡◌, ℕ, ◌+◌, ◌≤◌, ◌++◌, length, get_or, set, sym, ap, ◌∙◌, ap₂, arith}
-use lib.Seq.{paste}
-use Rattle.std.proofs.lemmas.List.Edits.{paste_more, paste_all}
-use Rattle.std.proofs.lemmas.List.{append-nil, drop_all}
+use Rattle.std.proofs.Common.{◌≡◌, ℕ, ◌+◌, ◌*◌, ◌/◌, List, [], ◌∷◌, ◌++◌, length, get_or, sym, ap, ◌∙◌, ap₂, arith}
+use Rattle.std.proofs.lemmas.List.{take_all, take_more, take_more_set}
+use Rattle.std.specs.Simd.{first_chunks}
+use Rattle.hexadecimal.specs.Digit.{value_of}
 use Rattle.hexadecimal.specs.Decoding.{bytes_of}
 use Rattle.hexadecimal.proofs.Pairs.{length_bytes_of, get_or_bytes_of}
 use Rattle.hexadecimal.proofs.reading.fill.Goals as goal
@@ -9,19 +9,15 @@ use Rattle.hexadecimal.proofs.reading.fill.Goals as goal
 pub loop-i-preserved : goal.loop-i-preserved
 loop-i-preserved c =
     let s = c.args.line.now in
+    let n = length c.args.out.now in
     let i = c.loop-i.i in
-    let out = c.args.out.now in
-    let long = length_bytes_of s (length out) c.requires in
-    let byte = c.joined.ensures ∙ sym (get_or_bytes_of s i (omega arith)) in
-    let at : i ≡ 0 + i = omega arith in
-    ap₂ (λ l v. set l i v) c.loop-i.invariant byte ∙ ap (λ (j : ℕ). set (paste out 0 (bytes_of s) i) j (get_or (bytes_of s) i 0)) at ∙ paste_more out 0 (bytes_of s) i 0 (omega arith) (omega arith)
+    let long = length_bytes_of s n c.requires in
+    let half : length s / 2 ≡ n = omega arith in
+    let pairs = c.as_chunks.ensures.front ∙ ap (λ (k : ℕ). first_chunks 2 k s) half in
+    let byte = c.joined.ensures ∙ ap (λ (ps : List (List ℕ)). value_of (get_or (get_or ps i []) 0 0) * 16 + value_of (get_or (get_or ps i []) 1 0)) pairs ∙ sym (get_or_bytes_of s n i c.requires (omega arith)) in
+    take_more_set c.loop-i.out i c.joined.result (omega arith) ∙ ap₂ (λ (xs : List ℕ) (x : ℕ). xs ++ x ∷ []) c.loop-i.invariant byte ∙ sym (take_more (bytes_of s) i 0 (omega arith))
 
 pub returns : goal.returns
 returns c =
-    let s = c.args.line.now in
-    let out = c.args.out.now in
-    let i = c.loop-i.i in
-    let long = length_bytes_of s (length out) c.requires in
-    let end : i ≡ length (bytes_of s) = omega arith in
-    let past : length out ≤ 0 + i = omega arith in
-    c.loop-i.invariant ∙ paste_all out 0 (bytes_of s) i end ∙ ap (λ t. bytes_of s ++ t) (drop_all (0 + i) out past) ∙ append-nil (bytes_of s)
+    let long = length_bytes_of c.args.line.now (length c.args.out.now) c.requires in
+    sym (take_all c.loop-i.i c.loop-i.out (omega arith)) ∙ c.loop-i.invariant ∙ take_all c.loop-i.i (bytes_of c.args.line.now) (omega arith)

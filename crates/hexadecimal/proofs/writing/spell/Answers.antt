@@ -1,37 +1,34 @@
-use Rattle.std.proofs.Common.{◌≡◌, ℕ, ◌+◌, ◌*◌, ◌++◌, length, get_or, take, drop, set, sym, ap, ◌∙◌, ap₂, arith}
-use lib.Seq.{paste}
-use Rattle.std.proofs.lemmas.List.Edits.{paste_more, paste_all}
-use Rattle.std.proofs.lemmas.List.{take_at}
+use Rattle.std.proofs.Common.{◌≡◌, ℕ, ◌+◌, ◌*◌, ◌++◌, [], ◌∷◌, length, take, drop, set, refl, sym, ap, ◌∙◌, ap₂, rules, arith}
+use Rattle.std.proofs.lemmas.List.{length-take-le, take_all, take_at}
 use Rattle.hexadecimal.specs.Encoding.{digits_of}
-use Rattle.hexadecimal.proofs.Pairs.{length_digits_of, get_or_digits_of_high, get_or_digits_of_low}
+use Rattle.hexadecimal.proofs.Pairs.{length_digits_of, digits_more, both_written}
 use Rattle.hexadecimal.proofs.Spelling.{digits_spell, reads_back}
 use Rattle.hexadecimal.proofs.writing.spell.Goals as goal
+
+pub loop-i-init : goal.loop-i-init
+unfolding digits_of
+loop-i-init c = refl
 
 pub loop-i-preserved : goal.loop-i-preserved
 loop-i-preserved c =
     let s = c.args.bytes.now in
     let i = c.loop-i.i in
-    let out = c.args.out.now in
-    let ds = digits_of s in
-    let long = length_digits_of s in
-    let high = c.parted-high.ensures.high ∙ sym (get_or_digits_of_high s i c.loop-i-test.true) in
-    let low = c.parted-high.ensures.low ∙ sym (get_or_digits_of_low s i c.loop-i-test.true) in
-    let at : 2 * i ≡ 0 + 2 * i = omega arith in
-    let next : 2 * i + 1 ≡ 0 + (2 * i + 1) = omega arith in
-    let first = ap₂ (λ l v. set l (2 * i) v) c.loop-i.invariant high ∙ ap (λ (j : ℕ). set (paste out 0 ds (2 * i)) j (get_or ds (2 * i) 0)) at ∙ paste_more out 0 ds (2 * i) 0 (omega arith) (omega arith) in
-    let second = ap₂ (λ l v. set l (2 * i + 1) v) first low ∙ ap (λ (j : ℕ). set (paste out 0 ds (2 * i + 1)) j (get_or ds (2 * i + 1) 0)) next ∙ paste_more out 0 ds (2 * i + 1) 0 (omega arith) (omega arith) in
-    let turn : 2 * i + 1 + 1 ≡ 2 * (i + 1) = omega arith in
-    second ∙ ap (paste out 0 ds) turn
+    let h = c.parted.result.0 in
+    let l = c.parted.result.1 in
+    let so_far = length_digits_of (take i s) in
+    let front : length (take i s) ≡ i = search (length-take-le, rules) in
+    let more = digits_more s i c.loop-i-test.true in
+    let next : 2 * i + 1 + 1 ≡ 2 * (i + 1) = omega arith in
+    ap (λ o. set (set o (2 * i) h) (2 * i + 1) l) c.loop-i.invariant
+    ∙ both_written (digits_of (take i s)) c.args.out.now (2 * i) (2 * i + 1) h l (omega arith) refl (omega arith)
+    ∙ ap₂ (λ ds (k : ℕ). ds ++ drop k c.args.out.now) (ap₂ (λ (a b : ℕ). digits_of (take i s) ++ a ∷ b ∷ []) c.parted.ensures.high c.parted.ensures.low ∙ sym more) next
 
 pub returns : goal.returns
 returns c =
     let s = c.args.bytes.now in
     let out = c.args.out.now in
-    let n = 2 * c.loop-i.i in
-    let long = length_digits_of s in
-    let end : n ≡ length (digits_of s) = omega arith in
-    let all : 0 + n ≡ 2 * length s = omega arith in
-    let left = c.loop-i.invariant ∙ paste_all out 0 (digits_of s) n end ∙ ap (λ (j : ℕ). digits_of s ++ drop j out) all in
-    let front : take (2 * length s) c.loop-i.out ≡ digits_of s = ap (take (2 * length s)) left ∙ take_at (digits_of s) (drop (2 * length s) out) (2 * length s) long in
+    let all : 2 * c.loop-i.i ≡ 2 * length s = omega arith in
+    let left = c.loop-i.invariant ∙ ap₂ (λ bs (k : ℕ). digits_of bs ++ drop k out) (take_all c.loop-i.i s (omega arith)) all in
+    let front : take (2 * length s) c.loop-i.out ≡ digits_of s = ap (take (2 * length s)) left ∙ take_at (digits_of s) (drop (2 * length s) out) (2 * length s) (length_digits_of s) in
     let spelt = digits_spell s (λ i. (c.type_inv.bytes i).fits) in
     record { buffer = left; spelt = rw front spelt; back = rw front (reads_back s spelt) }

@@ -1,7 +1,6 @@
-use Rattle.std.proofs.Common.{◌≡◌, ◌*◌}
-use lib.Seq.{paste}
+use Rattle.std.proofs.Common.{◌≡◌, ◌*◌, ◌++◌, take, drop}
 use Rattle.hexadecimal.specs.Encoding.{digits_of}
 use Rattle.hexadecimal.proofs.writing.spell.Given as goal
 
 abbrev pub invariant-loop-i : goal.invariant-loop-i
-invariant-loop-i l = l.out ≡ paste l.initial.out 0 (digits_of l.bytes) (2 * l.i)
+invariant-loop-i l = l.out ≡ digits_of (take l.i l.bytes) ++ drop (2 * l.i) l.initial.out
