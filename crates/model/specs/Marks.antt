@@ -1,5 +1,5 @@
 -- How a mark moves: a change makes it due, compose sends what is due, the awaited answer settles what is under way, and a packet withheld brings it back.
-use Rattle.std.specs.Prelude.{Bool, true, false}
+use Rattle.std.specs.Prelude.{ℕ, Bool, true, false, List, codes}
 use Rattle.model.specs.declared.mark.Mark.{Mark}
 use Rattle.model.specs.declared.mark.Mark.TheVariants.{Settled, Due, UnderWay}
 use Rattle.model.specs.declared.mark.Change.{Change}
@@ -22,3 +22,9 @@ abbrev pub is_outstanding : Mark → Bool
 is_outstanding Settled = false
 is_outstanding Due = true
 is_outstanding UnderWay = true
+
+-- a mark in words
+abbrev pub mark_name : Mark → List ℕ
+mark_name Settled = codes "settled"
+mark_name Due = codes "due"
+mark_name UnderWay = codes "under way"

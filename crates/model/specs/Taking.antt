@@ -1,5 +1,5 @@
 -- Taking a payload from a switch.
-use Rattle.std.specs.Prelude.{ℕ, ◌/◌, ◌%◌, Bool, true, cond, not, List, [], ◌∷◌, ℤ, Some, None, Ok, Err, Option, Result, ◌==◌}
+use Rattle.std.specs.Prelude.{ℕ, ◌/◌, ◌%◌, Bool, true, cond, not, List, [], ◌∷◌, ℤ, Some, None, Ok, Err, codes, Option, Result, ◌==◌}
 use Rattle.fault.specs.declared.ActorFault.TheVariants.{NotListed}
 use Rattle.fault.specs.declared.Fault.{Fault}
 use Rattle.fault.specs.declared.Fault.TheVariants as fault
@@ -109,6 +109,12 @@ take_from h (Some m) d s = take_messages h m d (messages_from s 16)
 abbrev pub take_ours : HubModel → Result Descriptor Fault → List ℕ → Step (Arrival × ℕ)
 take_ours h (Err e) s = Err e
 take_ours h (Ok d) s = cond (not (d.project == h.site.project)) (Err (fault.Frame Project 8)) (take_from h (find_switch d.switch h.switches) d s)
+
+-- what a payload was, in a word
+abbrev pub arrival_name : Arrival → List ℕ
+arrival_name arrival.Event = codes "event"
+arrival_name arrival.Answer = codes "answer"
+arrival_name arrival.Stale = codes "stale"
 
 -- Taking a payload tells what it was, and how many of its messages were understood.
 abbrev pub take_payload : HubModel → List ℕ → Step (Arrival × ℕ)

@@ -1,17 +1,20 @@
 // Whether a switch has been told of an item.
-ghost use Rattle.std.specs.Prelude.{◌≡◌};
-ghost use Rattle.model.specs.Marks.{is_outstanding, moved};
+ghost use Rattle.std.specs.Prelude.{◌≡◌, Some};
+ghost use Rattle.model.specs.Marks.{is_outstanding, mark_name, moved};
+
+use std::fmt;
 
 // Settled: the switch has it. Due: it must be told. Under way: it was told, and its answer has not come.
-#[derive(Clone, Copy)]
+#[derive(Clone, Copy, PartialEq, Eq, Debug, Default)]
 pub enum Mark {
+    #[default]
     Settled,
     Due,
     UnderWay,
 }
 
 // What can happen to an item.
-#[derive(Clone, Copy)]
+#[derive(Clone, Copy, PartialEq, Eq, Debug)]
 pub enum Change {
     Changed,
     Composed,
@@ -37,9 +40,18 @@ impl Mark {
     pub fn is_outstanding(self) -> bool
         ensures { result ≡ is_outstanding self }
     {
-        match self {
-            Mark::Settled => false,
-            Mark::Due | Mark::UnderWay => true,
-        }
+        matches!(self, Mark::Due | Mark::UnderWay)
+    }
+}
+
+impl fmt::Display for Mark {
+    ghost output = { λ m. Some (mark_name m) };
+
+    fn fmt<W: fmt::Write>(&self, f: &mut fmt::Formatter<W>) -> fmt::Result {
+        f.write_str(match self {
+            Mark::Settled => "settled",
+            Mark::Due => "due",
+            Mark::UnderWay => "under way",
+        })
     }
 }
