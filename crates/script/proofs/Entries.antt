@@ -1,23 +1,18 @@
 -- A list of actors read entry by entry, of which no more than its room is kept.
-use Rattle.std.proofs.Common.{◌≡◌, ℕ, zero, suc, ◌+◌, ◌<◌, ◌≤◌, Bool, true, false, cond, eqb, List, [], ◌∷◌, ◌++◌, length, take, drop, set, Some, None, Option, sym, refl, ap, ◌∙◌, append_assoc, arith}
+use Rattle.std.proofs.Common.{◌≡◌, ℕ, zero, suc, ◌<◌, ◌≤◌, Bool, true, false, cond, eqb, List, [], ◌∷◌, ◌++◌, length, take, drop, Some, None, Option, sym, refl, ap, ◌∙◌, append_assoc, arith}
 use Rattle.std.specs.Option.{option_map}
-use Rattle.std.proofs.lemmas.List.{length-append, length-take-le, take_all, take-append-le, take_more_set}
+use Rattle.std.proofs.lemmas.List.{length-append, take_all, take-append-le}
 use Rattle.hexadecimal.specs.Lines.{length_to}
 use Rattle.script.specs.Lists.{before, longer, numbers_in, parts_of}
 use Rattle.script.specs.Numbers.{word_in}
 
 -- one entry more
-pub added : (room count : ℕ) (xs : List ℕ) (a : ℕ) → length xs ≡ room → count < room → take (count + 1) (set xs count a) ≡ take room (take count xs ++ a ∷ [])
-added room count xs a long few =
-    let front = length-take-le count xs (omega arith) in
-    let whole = length-append (take count xs) (a ∷ []) in
-    take_more_set xs count a (omega arith) ∙ sym (take_all room (take count xs ++ a ∷ []) (omega arith))
+pub added : (xs : List ℕ) (a : ℕ) → length xs < 257 → xs ++ a ∷ [] ≡ take 257 (xs ++ a ∷ [])
+added xs a few = let whole = length-append xs (a ∷ []) in sym (take_all 257 (xs ++ a ∷ []) (omega arith))
 
 -- no room for it
-pub left_out : (room count : ℕ) (xs : List ℕ) (a : ℕ) → length xs ≡ room → room ≤ count → take count xs ≡ take room (take count xs ++ a ∷ [])
-left_out room count xs a long full =
-    let all = take_all count xs (omega arith) in
-    all ∙ sym (ap (λ (ys : List ℕ). take room (ys ++ a ∷ [])) all ∙ take-append-le room xs (a ∷ []) (omega arith) ∙ take_all room xs (omega arith))
+pub left_out : (xs : List ℕ) (a : ℕ) → length xs ≡ 257 → xs ≡ take 257 (xs ++ a ∷ [])
+left_out xs a full = sym (take-append-le 257 xs (a ∷ []) (omega arith) ∙ take_all 257 xs (omega arith))
 
 -- the parts of a text that is cut, and of one that is not
 pub first_part : (sep : ℕ) (text : List ℕ) → length_to sep text < length text → parts_of sep text ≡ take (length_to sep text) text ∷ parts_of sep (drop (suc (length_to sep text)) text)

@@ -1,6 +1,7 @@
 pub mod Numbers
 pub mod Actors
 pub mod Lists
+pub mod Rooms
 pub mod Verbs
 pub mod Calls
 pub mod Passing

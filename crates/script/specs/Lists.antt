@@ -1,7 +1,9 @@
 -- Lists of actors: numbers with a comma between each two.
 use Rattle.std.specs.Prelude.{ℕ, cond, List, [], ◌∷◌, take, Some, None, Option, ◌==◌}
 use Rattle.std.specs.Option.{option_map}
+use Rattle.script.specs.Actors.{actors_of}
 use Rattle.script.specs.Numbers.{word_in}
+use Rattle.script.specs.declared.actors.Actors.{Actors}
 
 abbrev pub comma : ℕ
 comma = 44
@@ -28,3 +30,7 @@ numbers_in (part ∷ parts) = before (word_in part) (numbers_in parts)
 -- A list. No call takes as many as 257 actors, so that of a longer list the first 257 do for all: it is refused for its length.
 abbrev pub list_in : List ℕ → Option (List ℕ)
 list_in text = option_map (take 257) (numbers_in (parts_of comma text))
+
+-- the list in memory that is read of it
+abbrev pub list_read : List ℕ → Option Actors
+list_read text = option_map actors_of (list_in text)

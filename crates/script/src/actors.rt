@@ -1,8 +1,20 @@
 // A list of actors in fixed memory.
+ghost use Rattle.std.specs.Prelude.{◌≡◌};
+ghost use Rattle.script.specs.Actors.{actors_in};
 
-// The first `count` entries are those of the list. There is room for one more than any call takes.
-#[derive(Clone, Copy)]
+use arrayvec::ArrayVec;
+
+// There is room for one more than any call takes.
+#[derive(PartialEq, Eq, Debug, Drop)]
 pub struct Actors {
-    pub(crate) entries: [u16; 257],
-    pub(crate) count: usize,
+    pub(crate) entries: ArrayVec<u16, 257>,
+}
+
+impl Actors {
+    // The entries of the list.
+    pub fn entries(&self) -> &[u16]
+        ensures { result.now ≡ actors_in self.now }
+    {
+        self.entries.as_slice()
+    }
 }

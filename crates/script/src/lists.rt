@@ -1,59 +1,35 @@
 // Lists of actors, as a script writes them.
-ghost use Rattle.std.specs.Prelude.{◌≡◌, [], ◌∷◌, ◌++◌, length, take};
-ghost use Rattle.std.specs.Option.{option_map};
-ghost use Rattle.script.specs.Actors.{actors_in};
-ghost use Rattle.script.specs.Lists.{list_in};
+ghost use Rattle.std.specs.Prelude.{◌≡◌, [], ◌∷◌, ◌++◌, take};
+ghost use Rattle.script.specs.Lists.{list_read};
 
 use crate::actors::Actors;
-use crate::numbers::word;
+use crate::parts::Part;
 use crate::words::cut;
+use arrayvec::ArrayVec;
 
 const COMMA: u8 = b',';
 
-// Puts an actor behind the first entries, where there is room, and tells how many they are then.
-fn put(entries: &mut [u16], count: usize, actor: u16) -> usize
-    ensures kept { take result entries.new ≡ take (length entries.old) (take count entries.old ++ actor ∷ []) }
-    ensures long { length entries.new ≡ length entries.old }
+// Keeps an actor, where there is room.
+fn keep(entries: &mut ArrayVec<u16, 257>, actor: u16)
+    ensures { entries.new.items ≡ take 257 (entries.old.items ++ actor ∷ []) }
 {
-    if count < entries.len() {
-        entries[count] = actor;
-        count + 1
-    } else {
-        count
+    if !entries.is_full() {
+        entries.push(actor);
     }
 }
 
-// The first entries, or all where there are fewer.
-fn front(entries: &[u16], count: usize) -> &[u16]
-    ensures { result.now ≡ take count entries.now }
-{
-    if count < entries.len() {
-        &entries[0..count]
-    } else {
-        entries
-    }
-}
+impl Part for Actors {
+    ghost reads = { list_read };
 
-impl Actors {
-    // The entries of the list.
-    pub fn entries(&self) -> &[u16]
-        ensures { result.now ≡ actors_in self.now }
-    {
-        front(&self.entries, self.count)
+    // The list that a text writes, if every entry is a number.
+    fn read(text: &[u8]) -> Option<Self> {
+        let mut entries = ArrayVec::new();
+        let mut left = text;
+        while let Some((entry, rest)) = cut(left, COMMA) {
+            keep(&mut entries, u16::read(entry)?);
+            left = rest;
+        }
+        keep(&mut entries, u16::read(left)?);
+        Some(Actors { entries })
     }
-}
-
-// The list that a text writes, if every entry is a number.
-pub(crate) fn list(text: &[u8]) -> Option<Actors>
-    ensures { option_map actors_in result ≡ list_in text.now }
-{
-    let mut entries = [0; 257];
-    let mut count = 0;
-    let mut left = text;
-    while let Some((entry, rest)) = cut(left, COMMA) {
-        count = put(&mut entries, count, word(entry)?);
-        left = rest;
-    }
-    count = put(&mut entries, count, word(left)?);
-    Some(Actors { entries, count })
 }

@@ -3,11 +3,10 @@ ghost use Rattle.std.specs.Prelude.{◌≡◌};
 ghost use Rattle.std.specs.Option.{option_map};
 ghost use Rattle.script.specs.Calls.{kept, open_in, said, store_in, two_before};
 
+use crate::actors::Actors;
 use crate::call::{Call, Store};
-use crate::lists::list;
-use crate::numbers::word;
-use crate::parts::{SPACE, any_word};
-use crate::words::{cut, is_name};
+use crate::parts::{Part, SPACE, any_word};
+use crate::words::cut;
 use model::Site;
 
 // The store that is asked for.
@@ -15,12 +14,10 @@ fn store(text: &[u8]) -> Option<Store<'_>>
     ensures { option_map kept result ≡ store_in text.now }
 {
     let (name, rest) = cut(text, SPACE)?;
-    if is_name(name, b"table") {
-        Some(Store::Table(list(rest)?))
-    } else if is_name(name, b"image") {
-        Some(Store::Image(any_word(rest)?))
-    } else {
-        None
+    match name {
+        b"table" => Some(Store::Table(Actors::read(rest)?)),
+        b"image" => Some(Store::Image(any_word(rest)?)),
+        _ => None,
     }
 }
 
@@ -30,7 +27,7 @@ fn two_before(text: &[u8]) -> Option<(u16, u16, &[u8])>
 {
     let (first, rest) = cut(text, SPACE)?;
     let (second, rest) = cut(rest, SPACE)?;
-    Some((word(first)?, word(second)?, rest))
+    Some((u16::read(first)?, u16::read(second)?, rest))
 }
 
 // The words of a site, and the store behind them.

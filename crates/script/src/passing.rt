@@ -8,8 +8,5 @@ const COMMENT: u8 = b'#';
 pub fn is_passed_over(line: &[u8]) -> bool
     ensures { result ≡ passed_over line.now }
 {
-    match line {
-        [first, ..] => *first == COMMENT,
-        [] => true,
-    }
+    matches!(line, [] | [COMMENT, ..])
 }

@@ -1,6 +1,5 @@
-// A text cut at a separator, and words compared with names.
+// A text cut at a separator.
 ghost use Rattle.std.specs.Prelude.{◌≡◌, ◌<◌, [], ◌∷◌, length, IfSome, Some, None, MatchOption};
-ghost use Rattle.std.specs.Str.{bytes_eq};
 ghost use Rattle.script.specs.Lists.{parts_of};
 ghost use Rattle.script.specs.Words.{cut_at};
 
@@ -11,16 +10,5 @@ pub(crate) fn cut(text: &[u8], separator: u8) -> Option<(&[u8], &[u8])>
     ensures shorter { IfSome result (λ p. length p.1.now < length text.now) }
 {
     let end = hexadecimal::length_to(text, separator);
-    if end < text.len() {
-        Some((&text[0..end], &text[end + 1..]))
-    } else {
-        None
-    }
-}
-
-// Whether a word is this name.
-pub(crate) fn is_name(word: &[u8], name: &[u8]) -> bool
-    ensures { result ≡ bytes_eq word.now name.now }
-{
-    word == name
+    Some((&text[..end], text.get(end + 1..)?))
 }

@@ -1,10 +1,10 @@
-use Rattle.std.proofs.Common.{◌≡◌, length, take}
+use Rattle.std.proofs.Common.{◌≡◌, length}
 use Rattle.script.specs.Lists.{comma, list_in, numbers_in, parts_of}
 use Rattle.script.proofs.Entries.{kept_with}
-use Rattle.script.proofs.lists.list.Given as goal
+use Rattle.script.proofs.lists.ActorsPart.read.Given as goal
 
 abbrev pub invariant-loop-entry : goal.invariant-loop-entry
-invariant-loop-entry l = (length l.entries ≡ 257) × (kept_with (take l.count l.entries) (numbers_in (parts_of comma l.left)) ≡ list_in l.text)
+invariant-loop-entry l = kept_with l.entries.items (numbers_in (parts_of comma l.left)) ≡ list_in l.text
 
 abbrev pub decreases-loop-entry : goal.decreases-loop-entry
 decreases-loop-entry l = length l.left
