@@ -45,6 +45,7 @@ fn fill(line: &[u8], out: &mut [u8])
     ensures { out.new ≡ bytes_of line.now }
 {
     let (pairs, _) = line.as_chunks::<2>();
+    // By places: no proof knows what was written through a `zip`.
     for (i, byte) in out.iter_mut().enumerate() {
         let [high, low] = pairs[i];
         *byte = joined(high, low);

@@ -23,13 +23,10 @@ fn show_messages(rt: &impl Print, payload: &[u8]) -> io::Result<()>
     requires { is_ok (messages_from payload.now 16) ≡ true }
 {
     let mut cursor = Cursor::new(payload);
-    loop {
-        match cursor.next() {
-            Ok(Some((offset, message))) => rt.println(Row { offset, message })?,
-            Ok(None) => return Ok(()),
-            Err(_) => unreachable(),
-        }
+    while let Some((offset, message)) = cursor.next().unwrap() {
+        rt.println(Row { offset, message })?;
     }
+    Ok(())
 }
 
 // Reads a line's payload into the buffer, and checks all of it: its length and what is known of it.
