@@ -5,7 +5,7 @@ use Rattle.std.proofs.lemmas.Bool.{cond-false, eqb-true, ltb-false, not-false, o
 use Rattle.std.specs.List.{flat_map}
 use Rattle.kind.specs.Kinds.{control, edit_value, event, real_value, state, temperature}
 use Rattle.kind.specs.Layout.{Layout, Lawful, broken, message_of, read_of, word_bytes}
-use Rattle.kind.specs.Laws.{event_lawful, flags_lawful, temperature_lawful, value_lawful}
+use Rattle.kind.specs.Laws.{control_lawful, edit_value_lawful, event_lawful, real_value_lawful, state_lawful, temperature_lawful}
 use Rattle.kind.proofs.Messages.{reads_back}
 use Rattle.kind.specs.Words.{word_round}
 use Rattle.packet.specs.declared.drafting.Draft.{Draft}
@@ -48,10 +48,10 @@ kind_reads k laws f actor r small admitted fit rest place by =
     by (not_broken s (omega arith) least (omega arith)) ∙ ap (told f) (reads_back k laws actor r rest small admitted fit place)
 
 record_reads : (r : Record) → RecordFits r → Admitted r → (rest : List ℕ) (place : ℕ) → messages.message_of (record_bytes r ++ rest) place ≡ Ok (Known (masked r))
-record_reads (State bits) fit ok rest place = kind_reads state (flags_lawful 0x01 0x1F0F18FF (omega arith) (omega arith)) (λ _ b. State b) 0 bits (omega arith) refl tt rest place (cond-false _ _ _)
-record_reads (Control bits) fit ok rest place = kind_reads control (flags_lawful 0x21 0x1F00FFBF (omega arith) (omega arith)) (λ _ b. Control b) 0 bits (omega arith) refl tt rest place (cond-false _ _ _)
-record_reads (EditValue actor target) fit ok rest place = kind_reads edit_value (value_lawful 0x42 (omega arith)) EditValue actor target fit.0 ok fit.1 rest place (cond-false _ _ _)
-record_reads (RealValue actor actual) fit ok rest place = kind_reads real_value (value_lawful 0x43 (omega arith)) RealValue actor actual fit.0 ok fit.1 rest place (cond-false _ _ _)
+record_reads (State bits) fit ok rest place = kind_reads state state_lawful (λ _ b. State b) 0 bits (omega arith) refl tt rest place (cond-false _ _ _)
+record_reads (Control bits) fit ok rest place = kind_reads control control_lawful (λ _ b. Control b) 0 bits (omega arith) refl tt rest place (cond-false _ _ _)
+record_reads (EditValue actor target) fit ok rest place = kind_reads edit_value edit_value_lawful EditValue actor target fit.0 ok fit.1 rest place (cond-false _ _ _)
+record_reads (RealValue actor actual) fit ok rest place = kind_reads real_value real_value_lawful RealValue actor actual fit.0 ok fit.1 rest place (cond-false _ _ _)
 record_reads (Event actor key) fit ok rest place = kind_reads event event_lawful Event actor key fit ok tt rest place (cond-false _ _ _)
 record_reads (Temperature reading) fit ok rest place = kind_reads temperature temperature_lawful (λ _ b. Temperature b) 0 reading (omega arith) refl fit rest place (cond-false _ _ _)
 

@@ -52,13 +52,6 @@ fn open_bytes(words: Descriptor) -> [u8; 16]
     ]
 }
 
-fn write_open(buf: &mut [u8], words: Descriptor)
-    requires { 16 ≤ length buf.old }
-    ensures { buf.new ≡ over buf.old 0 (open_bytes words) }
-{
-    buf[0..DESCRIPTOR_LEN].copy_from_slice(&open_bytes(words));
-}
-
 // Writes a message of kind K at a place where it has room.
 fn write_at<K: Kind>(buf: &mut [u8], at: usize, actor: u16, record: K::Record)
     requires room { at + K.layout.size ≤ length buf.old }
@@ -102,7 +95,7 @@ impl Draft {
         if buf.len() < DESCRIPTOR_LEN {
             return Err(Fault::Call(CallFault::ShortBuffer, 0));
         }
-        write_open(buf, words);
+        buf[0..DESCRIPTOR_LEN].copy_from_slice(&open_bytes(words));
         Ok(Draft { behind: 0 })
     }
 

@@ -1,7 +1,6 @@
-use Rattle.std.proofs.Common.{rules}
 use Rattle.std.proofs.lemmas.Bool.{leb-true}
 use Rattle.packet.proofs.Walks.{none_from}
 use Rattle.packet.proofs.walking.at_end.Goals as goal
 
-pub returns : goal.returns
-returns c = record { answer = search rules; none = λ end. none_from c.args.payload.now c.args.place (leb-true _ _ end) }
+pub returns-clause-none : goal.returns-clause-none
+returns-clause-none c = λ end. none_from c.args.payload.now c.args.place (leb-true _ _ end)

@@ -4,10 +4,9 @@ use Rattle.packet.specs.Messages.{message_of}
 use Rattle.packet.proofs.Walks.{walked, whole_at}
 use Rattle.packet.proofs.walking.message_at.Goals as goal
 
-pub returns : goal.returns
-returns c =
+pub returns-clause-walked : goal.returns-clause-walked
+returns-clause-walked c =
     let s = c.args.payload.now in
     let place = c.args.place in
     let same = c.read.ensures.answer ∙ ap (λ (l : List ℕ). message_of l place) (take_rest s place) in
-    let whole = whole_at s place c.read.result c.requires c.read.ensures.whole in
-    record { answer = same; whole = whole; walked = walked s place c.read.result c.requires (sym same) whole }
+    walked s place c.read.result c.requires (sym same) (whole_at s place c.read.result c.requires c.read.ensures.whole)
