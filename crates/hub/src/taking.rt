@@ -67,10 +67,7 @@ fn next_message(cursor: &mut Cursor<'_>) -> Option<Message>
     ensures moves { OnSome result ((cursor.old.place < cursor.new.place) × (cursor.new.place ≤ length cursor.old.payload.now)) }
     ensures walked { Heard cursor.old.payload.now cursor.old.place cursor.new.place result }
 {
-    match cursor.next() {
-        Ok(next) => next.map(|(_, message)| message),
-        Err(_) => unreachable(),
-    }
+    cursor.next().unwrap().map(|(_, message)| message)
 }
 
 impl<S: ActorStore> Hub<S> {
