@@ -1,7 +1,9 @@
 -- What holds of each element of a list, or of some; what an Option or a Result holds.
-use Rattle.std.proofs.Common.{◌≡◌, List, [], ◌∷◌, ◌++◌, map, Some, None, Ok, Err, Option, Result, sym, ap, subst, inl, inr}
+use Rattle.std.proofs.Common.{◌≡◌, ℕ, true, List, [], ◌∷◌, ◌++◌, map, Some, None, Ok, Err, Option, Result, sym, ap, ◌∙◌, subst, inl, inr}
 use Rattle.std.specs.List.{AllByRecursion}
 use Rattle.std.proofs.ByRecursion.{All-map, All-weaker}
+use Rattle.std.proofs.lemmas.Bool.{eqb-true, true≢false}
+use Rattle.model.specs.Models.{is_number}
 use Rattle.law.specs.Values.{Any}
 
 abbrev some_or : {A : Type 0} → A → Option A → A
@@ -56,3 +58,11 @@ cons≢nil p = subst IsCons p tt
     IsCons : {B : Type 0} → List B → Type 0
     IsCons [] = ⊥
     IsCons (x ∷ xs) = Unit {0}
+
+-- a number that is this one is there, and equals it
+
+pub some_number : (o : Option ℕ) (n : ℕ) → is_number o n ≡ true → o ≡ None → ⊥
+some_number o n e z = true≢false (sym e ∙ ap (λ p. is_number p n) z)
+
+pub that_number : (o : Option ℕ) (n k : ℕ) → is_number o n ≡ true → o ≡ Some k → n ≡ k
+that_number o n k e z = sym (eqb-true k n (sym (ap (λ p. is_number p n) z) ∙ e))

@@ -2,7 +2,7 @@
 use Rattle.std.proofs.Common.{◌≡◌, ℕ, suc, Bool, true, false, cond, eqb, ◌⊎◌, List, [], ◌∷◌, ◌++◌, map, take, ℤ, Some, None, Ok, Option, sym, refl, ap, ◌∙◌, subst, inl, inr, ⊎_elim, append-nil, arith}
 use Rattle.std.specs.Option.{option_map}
 use Rattle.std.specs.List.{AllByRecursion}
-use Rattle.std.proofs.lemmas.Bool.{eq-eqb, eqb-false, eqb-true, ne_eqb, or_from, true≢false}
+use Rattle.std.proofs.lemmas.Bool.{eq-eqb, eqb-false, eqb-true, ne_eqb, or_from}
 use Rattle.packet.specs.declared.records.Message.{Message}
 use Rattle.packet.specs.declared.words.Descriptor.{Descriptor}
 use Rattle.packet.specs.Words.{major}
@@ -13,9 +13,9 @@ use Rattle.model.specs.declared.mark.Change.TheVariants.{Answered, Composed}
 use Rattle.model.specs.declared.mark.Mark.TheVariants.{Settled, Due}
 use Rattle.model.specs.declared.told.Arrival.{Arrival}
 use Rattle.model.specs.declared.told.Site.{Site}
-use Rattle.model.specs.Composing.{brought_back, closed_slip, composed, composed_bytes, has_outstanding, is_open_slip}
+use Rattle.model.specs.Composing.{brought_back, closed_slip, composed, composed_bytes, has_outstanding}
 use Rattle.model.specs.Marks.{is_outstanding}
-use Rattle.model.specs.Models.{HubModel, SwitchModel, any_outstanding, at_switch, change_switch, find_switch, moved_item, touched, with_control}
+use Rattle.model.specs.Models.{HubModel, SwitchModel, any_outstanding, at_switch, change_switch, find_switch, is_number, moved_item, touched, with_control}
 use Rattle.model.specs.Opening.{new_switch}
 use Rattle.model.specs.Settings.{at_enrolled, set_value}
 use Rattle.model.specs.Taking.{answered, take_payload}
@@ -25,7 +25,7 @@ use Rattle.law.specs.World.{About, End, Move, Packet, Payload, World, accepts, d
 use Rattle.law.specs.Law as law
 use Rattle.law.specs.Law.{Lists, Quiet, Quietly, Settling, SiteFits}
 use Rattle.law.proofs.Answers.{head_fine, settled_by}
-use Rattle.law.proofs.Elements.{all_then, all_mapped, none≢some}
+use Rattle.law.proofs.Elements.{all_then, all_mapped, some_number}
 use Rattle.law.proofs.Flights.{between_below, between_last, between_le, delivered_below, number≢0}
 use Rattle.law.proofs.Granted.{compose_is, control_is, enrol_is, refused_leaves, sent_is, set_is, withheld_is}
 use Rattle.law.proofs.Held.{Lawful}
@@ -68,7 +68,7 @@ composed_none_due m = (go m.items, not_due_composed m.mark)
 module _ (k : ℕ) where
   -- none due, and its answer awaited
   abbrev Pending : SwitchModel → Type 0
-  Pending m = (m.numbers.awaited ≡ number_of k) × NoneDue m
+  Pending m = (m.numbers.awaited ≡ Some (number_of k)) × NoneDue m
 
   -- it was withheld, and never comes
   abbrev Gone : End → Type 0
@@ -147,13 +147,9 @@ module _ (k : ℕ) where
   waits_sent m e x = waits_end (Some (closed_slip m)) e (with_line_to (joined e.line_to) e) refl (gone_sent e) (waits_kept m (closed_slip m) e (record { items = refl; mark = refl; awaited = refl }) x)
 
   -- a withheld packet never comes
-  slip_is_out : (o : Option ℕ) (n : ℕ) → is_open_slip o n ≡ true → o ≡ None → ⊥
-  slip_is_out None n e z = true≢false (sym e)
-  slip_is_out (Some j) n e z = none≢some (sym z)
-
-  waits_withheld : (st : store.Known) (m : SwitchModel) (n : ℕ) (e : End) → is_open_slip m.numbers.slip n ≡ true → Here st (Some m) e → Waits (Some m) e
+  waits_withheld : (st : store.Known) (m : SwitchModel) (n : ℕ) (e : End) → is_number m.numbers.slip n ≡ true → Here st (Some m) e → Waits (Some m) e
       → Waits (Some (brought_back m)) (with_line_to (discarded e.line_to) e)
-  waits_withheld st m n e open_slip h x = (x.0, inl (⊎_elim (λ z. absurd (slip_is_out m.numbers.slip n open_slip z)) gone h.1.numbers.slip))
+  waits_withheld st m n e open_slip h x = (x.0, inl (⊎_elim (λ z. absurd (some_number m.numbers.slip n open_slip z)) gone h.1.numbers.slip))
     where
       gone : (p : Packet) × (e.line_to.waiting ≡ p ∷ []) × (e.line_to.composed ≡ suc p.index) → Gone (with_line_to (discarded e.line_to) e)
       gone r =
@@ -191,7 +187,7 @@ module _ (k : ℕ) where
   waits_answer s w t p rest d ms x g said from n taken y =
       let a = answer_is w.hub p.bytes d ms x g said n taken in
       subst (λ h. Waits (find_switch s h.switches) (cond (eqb t s) (accepts p rest (w.ends t)) (w.ends s))) (sym (a.2 ∙ ap (answered_if d.number a.0 w.hub) from))
-      (go a.0 (ap (λ (i : ℕ). find_switch i w.hub.switches) (sym from) ∙ a.1) (eqb d.number a.0.numbers.awaited))
+      (go a.0 (ap (λ (i : ℕ). find_switch i w.hub.switches) (sym from) ∙ a.1) (is_number a.0.numbers.awaited d.number))
     where
       go : (m : SwitchModel) → find_switch t w.hub.switches ≡ Some m → (b : Bool)
           → Waits (find_switch s (cond b (change_switch t answered w.hub) w.hub).switches) (cond (eqb t s) (accepts p rest (w.ends t)) (w.ends s))
@@ -253,8 +249,8 @@ module _ (k : ℕ) where
 
       f : Gone e ⊎ (Clear m ⊎ Pending m) → Clear (settled_by (number_of k) m)
       f (inl g) = absurd (g.1 d)
-      f (inr (inl c)) = was_clear c (eqb (number_of k) m.numbers.awaited)
-      f (inr (inr p)) = subst (λ (b : Bool). Clear (cond b (answered m) m)) (sym (eq-eqb (number_of k) m.numbers.awaited (sym p.0))) (answered_clear m p.1)
+      f (inr (inl c)) = was_clear c (is_number m.numbers.awaited (number_of k))
+      f (inr (inr p)) = subst (λ (b : Bool). Clear (cond b (answered m) m)) (sym (ap (λ o. is_number o (number_of k)) p.0 ∙ eq-eqb (number_of k) (number_of k) refl)) (answered_clear m p.1)
 
   waits_run : (site : Site) → SiteFits site → major site.version ≡ 2 → (s : ℕ) {w u : World} → Quietly s w u → Holds site w → WaitsAt w s → Holds site u × WaitsAt u s
   waits_run site fit version s law.Quietly.stay i y = (i, y)
@@ -263,7 +259,7 @@ module _ (k : ℕ) where
 
 -- the hub after an answer, at the switch that sent it
 found_answered : (h : HubModel) (s number : ℕ) (m : SwitchModel) → find_switch s h.switches ≡ Some m → find_switch s (answered_if number m h s).switches ≡ Some (settled_by number m)
-found_answered h s number m q = go (eqb number m.numbers.awaited)
+found_answered h s number m q = go (is_number m.numbers.awaited number)
   where
     go : (b : Bool) → find_switch s (cond b (change_switch s answered h) h).switches ≡ Some (cond b (answered m) m)
     go true = find_at_same s answered (λ n. refl) h.switches ∙ ap (option_map answered) q
@@ -280,7 +276,7 @@ settling site st fit version l w run s buf c g composes u quiet p rest d ms head
     let start : Waits k (find_switch s g.switches) (cond (eqb s s) e (w.ends s)) =
     (subst (λ (b : Bool). Waits k (find_switch s g.switches) (cond b e (w.ends s))) (sym (eq-eqb s s refl))
     (subst (λ o. Waits k o e) (sym (ap (λ (h : HubModel). find_switch s h.switches) r.after ∙ find_at_same s composed (λ n. refl) w.hub.switches ∙ ap (option_map composed) r.enrolled))
-    (refl, inr (inr (f.numbers.next, composed_none_due m))))) in
+    (refl, inr (inr (ap Some f.numbers.next, composed_none_due m))))) in
     let z = waits_run k site fit version s quiet (keep site fit version (world.Move.composes s buf c g composes) i) start in
     let fine = head_fine (u.ends s) p rest head (z.0.each s).0 in
     let answer : AboutFine (u.ends s).display.acts (u.ends s).line_to.delivered (spoken p.bytes) (world.About.answer_to k) =

@@ -1,5 +1,5 @@
 -- What an accepted payload was, and what its messages did, offsets left aside.
-use Rattle.std.proofs.Common.{◌≡◌, ℕ, ◌+◌, Bool, true, false, cond, ◌&&◌, eqb, List, [], ◌∷◌, map, Some, None, Ok, Err, Option, Result, sym, refl, ap, ◌∙◌, subst}
+use Rattle.std.proofs.Common.{◌≡◌, ℕ, ◌+◌, Bool, true, false, cond, ◌&&◌, List, [], ◌∷◌, map, Some, None, Ok, Err, Option, Result, sym, refl, ap, ◌∙◌, subst}
 use Rattle.std.proofs.lemmas.Bool.{eq-eqb, ne_eqb}
 use Rattle.fault.specs.declared.Fault.{Fault}
 use Rattle.packet.proofs.Spelling.{same_answer}
@@ -11,7 +11,7 @@ use Rattle.packet.specs.Words.{descriptor_of}
 use Rattle.model.specs.declared.item.Item.{Item}
 use Rattle.model.specs.declared.told.Arrival.{Arrival}
 use Rattle.model.specs.declared.told.Arrival.TheVariants as arrival
-use Rattle.model.specs.Models.{HubModel, Step, SwitchModel, change_switch, find_switch}
+use Rattle.model.specs.Models.{HubModel, Step, SwitchModel, change_switch, find_switch, is_number}
 use Rattle.model.specs.Taking.{answered, event_unless, first_unlisted, heard, heard_message, message_listed, take_answer, take_event, take_from, take_messages, take_ours, take_payload}
 use Rattle.law.specs.Values.{drop_offsets, spoken}
 use Rattle.law.proofs.Elements.{err≢ok, none≢some, some_inj}
@@ -105,14 +105,14 @@ event_is h s d ms told count g said zero e =
 
 -- an accepted answer: the awaited number settles, any other changes nothing
 abbrev pub answered_if : ℕ → SwitchModel → HubModel → ℕ → HubModel
-answered_if number m h id = cond (eqb number m.numbers.awaited) (change_switch id answered h) h
+answered_if number m h id = cond (is_number m.numbers.awaited number) (change_switch id answered h) h
 
 pub answer_is : (h : HubModel) (s : List ℕ) (d : Descriptor) (ms : List Message) (x : Arrival × ℕ) (g : HubModel)
     → spoken s ≡ Some (d, ms) → (d.number ≡ 0 → ⊥) → take_payload h s ≡ Ok (x, g)
     → (m : SwitchModel) × (find_switch d.switch h.switches ≡ Some m) × (g ≡ answered_if d.number m h d.switch)
 answer_is h s d ms x g said n e =
     let t = taken_parts h s d ms _ said e in
-    (t.0, t.2, go t.0 t.1 (eqb d.number t.0.numbers.awaited) (subst (λ (b : Bool). cond b (take_event h t.0 d.switch t.1) (take_answer h t.0 d.switch d.number t.1) ≡ Ok (x, g)) (ne_eqb d.number 0 n) t.4))
+    (t.0, t.2, go t.0 t.1 (is_number t.0.numbers.awaited d.number) (subst (λ (b : Bool). cond b (take_event h t.0 d.switch t.1) (take_answer h t.0 d.switch d.number t.1) ≡ Ok (x, g)) (ne_eqb d.number 0 n) t.4))
   where
     go : (m : SwitchModel) (places : List (ℕ × Message)) (b : Bool)
         → ◌≡◌ {A = Step (Arrival × ℕ)} (cond b (Ok ((arrival.Answer, understood places), change_switch d.switch answered h)) (Ok ((arrival.Stale, understood places), h))) (Ok (x, g))

@@ -73,6 +73,11 @@ abbrev pub any_outstanding : List Item → Bool
 any_outstanding [] = false
 any_outstanding (x ∷ xs) = is_outstanding x.mark || any_outstanding xs
 
+-- whether a number that may be absent, as that of the awaited answer or of the open slip, is this one
+abbrev pub is_number : Option ℕ → ℕ → Bool
+is_number None number = false
+is_number (Some n) number = n == number
+
 -- Moving items: one actor's, all of them, or the control word.
 
 abbrev pub with_marks : List Item → Mark → SwitchModel → SwitchModel

@@ -46,7 +46,7 @@ new_switch id list = record {
   items = map due_item list;
   control = 0x00000130;
   mark = Due;
-  numbers = record { next = 1; awaited = 0; slip = None };
+  numbers = record { next = 1; awaited = None; slip = None };
   report = record { flags = 0; key = None; reading = None };
 }
 
