@@ -73,21 +73,21 @@ impl Switch {
             SwitchStep::TellReading(reading) => self.report.reading = reading,
             SwitchStep::Answer => {
                 self.move_all(Change::Answered);
-                self.numbers.awaited = 0;
+                self.numbers.awaited = None;
             }
             SwitchStep::Compose => {
                 self.move_all(Change::Composed);
                 let number = self.numbers.next;
                 self.numbers = Numbers {
                     next: number_after(number),
-                    awaited: number,
+                    awaited: Some(number),
                     slip: Some(number),
                 };
             }
             SwitchStep::CloseSlip => self.numbers.slip = None,
             SwitchStep::BringBack => {
                 self.move_all(Change::Withheld);
-                self.numbers.awaited = 0;
+                self.numbers.awaited = None;
                 self.numbers.slip = None;
             }
         }
