@@ -1,24 +1,10 @@
--- What holds of each element of a list, or of some; what an Option or a Result holds.
+-- What holds of each element of a list, or of some; what a Result holds.
 use Rattle.std.proofs.Common.{◌≡◌, ℕ, true, List, [], ◌∷◌, ◌++◌, map, Some, None, Ok, Err, Option, Result, sym, ap, ◌∙◌, subst, inl, inr}
 use Rattle.std.specs.List.{AllByRecursion}
 use Rattle.std.proofs.ByRecursion.{All-map, All-weaker}
 use Rattle.std.proofs.lemmas.Bool.{eqb-true, true≢false}
 use Rattle.model.specs.Models.{is_number}
 use Rattle.law.specs.Values.{Any}
-
-abbrev some_or : {A : Type 0} → A → Option A → A
-some_or x None = x
-some_or x (Some y) = y
-
-abbrev HasSome : {A : Type 0} → Option A → Type 0
-HasSome None = ⊥
-HasSome (Some y) = Unit {0}
-
-pub some_inj : {A : Type 0} {x y : A} → Some x ≡ Some y → x ≡ y
-some_inj {A} {x} e = ap (some_or x) e
-
-pub none≢some : {A : Type 0} {x : A} → None ≡ Some x → ⊥
-none≢some e = subst HasSome (sym e) tt
 
 abbrev IsOk : {A E : Type 0} → Result A E → Type 0
 IsOk (Ok y) = Unit {0}

@@ -4,6 +4,7 @@ use Rattle.std.specs.Option.{option_map}
 use Rattle.std.specs.List.{AllByRecursion}
 use Rattle.std.proofs.lemmas.List.{take_at}
 use Rattle.std.proofs.lemmas.Bool.{eq-eqb, eqb-false, ltb-false, or_parts}
+use Rattle.std.proofs.lemmas.Option.{none-some}
 use Rattle.fault.specs.declared.CallFault.TheVariants.{NoSlip, NothingOutstanding, ShortBuffer, SlipOpen}
 use Rattle.fault.specs.declared.Fault.{Fault}
 use Rattle.fault.specs.declared.Fault.TheVariants as fault
@@ -17,7 +18,7 @@ use Rattle.model.specs.Opening.{enrol, enrol_fault, entry_fault, new_switch, unl
 use Rattle.model.specs.Settings.{at_enrolled, granted, set_control, set_value, with_value}
 use Rattle.law.specs.World as world
 use Rattle.law.specs.World.{Call, Refused, leaves}
-use Rattle.law.proofs.Elements.{err≢ok, none≢some}
+use Rattle.law.proofs.Elements.{err≢ok}
 use Rattle.law.proofs.Switches.{find_at_same}
 
 found : {A : Type 0} (o : Option SwitchModel) (f : SwitchModel → Result A Fault) {x : A} → at_enrolled o f ≡ Ok x → (m : SwitchModel) × (o ≡ Some m) × (f m ≡ Ok x)
@@ -29,12 +30,12 @@ abbrev pub Entry : Known → ℕ → Type 0
 Entry st a = (a ≡ 0 → ⊥) × (is_some (st a) ≡ true)
 
 no_fault : (b : Bool) (f : Fault) (o : Option Fault) → cond b (Some f) o ≡ None → (b ≡ false) × (o ≡ None)
-no_fault true f o e = absurd (none≢some (sym e))
+no_fault true f o e = absurd (none-some _ (sym e))
 no_fault false f o e = (refl, e)
 
 is_known : (b : Bool) (f : Fault) (o : Option Fault) → cond b o (Some f) ≡ None → (b ≡ true) × (o ≡ None)
 is_known true f o e = (refl, e)
-is_known false f o e = absurd (none≢some (sym e))
+is_known false f o e = absurd (none-some _ (sym e))
 
 entries : (st : Known) (before : List ℕ) (i : ℕ) (list : List ℕ) → entry_fault st before i list ≡ None → AllByRecursion (Entry st) list
 entries st before i [] e = tt

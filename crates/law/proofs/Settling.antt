@@ -132,6 +132,11 @@ module _ (k : ℕ) where
           (g (subst (λ o. Waits o (w.ends t)) q (subst (λ (y : ℕ). WaitsAt w y) (sym r) x))))
       h false z = subst (λ o. Waits o (w.ends s)) (sym (find_at_other t s f i (eqb-false t s z) w.hub.switches)) x
 
+  -- a step of switch t's end alone, which packets gone survive
+  end_alone : (w : World) (s t : ℕ) (e : End) → (w.ends t).line_to.composed ≡ e.line_to.composed → (Gone (w.ends t) → Gone e) → WaitsAt w s
+      → Waits (find_switch s w.hub.switches) (cond (eqb t s) e (w.ends s))
+  end_alone w s t e c g = focus_end w s t (find_switch s w.hub.switches) e (waits_end (find_switch s w.hub.switches) (w.ends t) e c g)
+
   gone_delivered : (e : End) (p : Packet) (rest : List Packet) → e.line_to.line ≡ p ∷ rest → Gone e → Gone (delivers p rest e)
   gone_delivered e p rest q g =
       let a = subst (λ y. AllByRecursion (λ r. r.index ≡ k → ⊥) (y ++ e.line_to.waiting)) q g.0 in
@@ -192,7 +197,7 @@ module _ (k : ℕ) where
       go : (m : SwitchModel) → find_switch t w.hub.switches ≡ Some m → (b : Bool)
           → Waits (find_switch s (cond b (change_switch t answered w.hub) w.hub).switches) (cond (eqb t s) (accepts p rest (w.ends t)) (w.ends s))
       go m q true = focus_step w s t answered (λ i. refl) (accepts p rest (w.ends t)) m q (waits_answered m (w.ends t) (accepts p rest (w.ends t)) refl (λ z. z)) y
-      go m q false = focus_end w s t (find_switch s w.hub.switches) _ (waits_end (find_switch s w.hub.switches) (w.ends t) _ refl (λ z. z)) y
+      go m q false = end_alone w s t _ refl (λ z. z) y
 
   -- every quiet move
   waits_move : (site : Site) (s : ℕ) {w u : World} (x : Move w u) → Holds site w → Quiet s x → WaitsAt w s → WaitsAt u s
@@ -225,19 +230,19 @@ module _ (k : ℕ) where
       (waits_withheld w.hub.store r.0 number (w.ends t) r.3 (subst (λ o. Here w.hub.store o (w.ends t)) r.1 (i.each t))) y)
   waits_move site s {w} (world.Move.refuses c x) i q y = subst (λ (h : HubModel). Waits (find_switch s h.switches) (w.ends s)) (sym (refused_leaves w.hub c x)) y
   waits_move site s {w} (world.Move.arrives t p rest x) i q y =
-      focus_end w s t (find_switch s w.hub.switches) _ (waits_end (find_switch s w.hub.switches) (w.ends t) _ refl (gone_delivered (w.ends t) p rest x)) y
+      end_alone w s t _ refl (gone_delivered (w.ends t) p rest x) y
   waits_move site s {w} (world.Move.loses_packet t p rest x) i q y =
-      focus_end w s t (find_switch s w.hub.switches) _ (waits_end (find_switch s w.hub.switches) (w.ends t) _ refl (gone_lost (w.ends t) p rest x)) y
+      end_alone w s t _ refl (gone_lost (w.ends t) p rest x) y
   waits_move site s {w} (world.Move.loses_payload t p rest x) i q y =
-      focus_end w s t (find_switch s w.hub.switches) _ (waits_end (find_switch s w.hub.switches) (w.ends t) _ refl (λ z. z)) y
+      end_alone w s t _ refl (λ z. z) y
   waits_move site s {w} (world.Move.answers t j bytes d ms said x) i q y =
-      focus_end w s t (find_switch s w.hub.switches) _ (waits_end (find_switch s w.hub.switches) (w.ends t) _ refl (λ z. z)) y
+      end_alone w s t _ refl (λ z. z) y
   waits_move site s {w} (world.Move.turns t a v bytes d ms l said z x) i q y =
-      focus_end w s t (find_switch s w.hub.switches) _ (waits_end (find_switch s w.hub.switches) (w.ends t) _ refl (λ z. z)) y
+      end_alone w s t _ refl (λ z. z) y
   waits_move site s {w} (world.Move.restarts t) i q y =
-      focus_end w s t (find_switch s w.hub.switches) _ (waits_end (find_switch s w.hub.switches) (w.ends t) _ refl (λ z. z)) y
+      end_alone w s t _ refl (λ z. z) y
   waits_move site s {w} (world.Move.reports t bytes d ms said z) i q y =
-      focus_end w s t (find_switch s w.hub.switches) _ (waits_end (find_switch s w.hub.switches) (w.ends t) _ refl (λ z. z)) y
+      end_alone w s t _ refl (λ z. z) y
 
   -- its answer taken: every item is settled
   clear_at_last : (m : SwitchModel) (e : End) → Delivered k e.line_to.delivered → Waits (Some m) e → Clear (settled_by (number_of k) m)

@@ -1,4 +1,4 @@
-use Rattle.std.proofs.Common.{◌≡◌, Bool, cond, eqb, Ok, Err, sym, ap, ◌∙◌, rules}
+use Rattle.std.proofs.Common.{◌≡◌, Bool, cond, Ok, Err, sym, ap, ◌∙◌, rules}
 use Rattle.model.specs.declared.told.Arrival.TheVariants.{Answer, Stale}
 use Rattle.model.specs.Models.{answer_of, change_switch, hub_after, is_number}
 use Rattle.model.specs.Taking.{answered}
