@@ -32,7 +32,7 @@ use Rattle.law.proofs.Held.{Lawful}
 use Rattle.law.proofs.Invariant.{AboutFine, Between, Delivered, Enrolled, Here, Holds, SwitchFine, flight, number_in, number_of}
 use Rattle.law.proofs.Marks.{not_due_composed, settled_answered, settled≢due}
 use Rattle.law.proofs.Moves.{keep, keep_run}
-use Rattle.law.proofs.Quiet.{Kept, hear_quiet, kept_untouched}
+use Rattle.law.proofs.Quiet.{Kept, hear_quiet, kept_same, kept_untouched}
 use Rattle.law.proofs.Switches.{KeepsId, find_append, find_at_other, find_at_same, find_map, or_else}
 use Rattle.law.proofs.Taken.{answer_is, answered_if, event_is, hear_all}
 use Rattle.law.proofs.Truth.{holds_at_opening}
@@ -88,6 +88,10 @@ module _ (k : ℕ) where
       f (inl g) = inl g
       f (inr (inl c)) = inr (inl (subst (AllByRecursion (λ x. x.mark ≡ Settled)) (sym p.items) c.0, p.mark ∙ c.1))
       f (inr (inr q)) = inr (inr (p.awaited ∙ q.0, none_due q.1))
+
+  -- a switch found then, for the one found before
+  waits_found : (o o' : Option SwitchModel) (e : End) (m n : SwitchModel) → o ≡ Some m → o' ≡ Some n → Kept m n → Waits o e → Waits o' e
+  waits_found o o' e m n q r p y = subst (λ x. Waits x e) (sym r) (waits_kept m n e p (subst (λ x. Waits x e) q y))
 
   -- the switch that waits
   waiting_switch : (o : Option SwitchModel) (e : End) → Waits o e → (m : SwitchModel) × (o ≡ Some m)
@@ -171,8 +175,8 @@ module _ (k : ℕ) where
   waits_set s w a half v g p q y =
       let r = waiting_switch (find_switch s w.hub.switches) (w.ends s) y in
       subst (λ h. Waits (find_switch s h.switches) (w.ends s)) (sym (set_is w.hub a half v g p).1)
-      (subst (λ o. Waits o (w.ends s)) (sym (find_map (touched a) (λ m. refl) s w.hub.switches ∙ ap (option_map (touched a)) r.1))
-      (waits_kept r.0 (touched a r.0) (w.ends s) (kept_untouched r.0 a (λ l. q (r.0, r.1, l))) (subst (λ o. Waits o (w.ends s)) r.1 y)))
+      (waits_found _ _ (w.ends s) r.0 (touched a r.0) r.1 (find_map (touched a) (λ m. refl) s w.hub.switches ∙ ap (option_map (touched a)) r.1)
+      (kept_untouched r.0 a (λ l. q (r.0, r.1, l))) y)
 
   waits_event : (s : ℕ) (w : World) (t : ℕ) (p : Payload) (rest : List Payload) (d : Descriptor) (ms : List Message) (told : Arrival) (count : ℕ) (g : HubModel)
       → spoken p.bytes ≡ Some (d, ms) → d.switch ≡ t → d.number ≡ 0 → take_payload w.hub p.bytes ≡ Ok ((told, count), g)
@@ -184,7 +188,7 @@ module _ (k : ℕ) where
       let n = hear_quiet s t ms w.hub m.0 m.1 (λ a l. q.0 a (m.0, m.1, l)) q.1 in
       subst (λ h. Waits (find_switch s h.switches) (cond (eqb t s) (accepts p rest (w.ends t)) (w.ends s))) (sym (r.after ∙ ap (λ (x : ℕ). hear_all x ms w.hub) from))
       (focus_end w s t _ _ (waits_end _ (w.ends t) _ refl (λ z. z))
-      (subst (λ o. Waits o (w.ends s)) (sym n.1) (waits_kept m.0 n.0 (w.ends s) n.2 (subst (λ o. Waits o (w.ends s)) m.1 y))))
+      (waits_found _ _ (w.ends s) m.0 n.0 m.1 n.1 n.2 y))
 
   waits_answer : (s : ℕ) (w : World) (t : ℕ) (p : Payload) (rest : List Payload) (d : Descriptor) (ms : List Message) (x : Arrival × ℕ) (g : HubModel)
       → spoken p.bytes ≡ Some (d, ms) → d.switch ≡ t → (d.number ≡ 0 → ⊥) → take_payload w.hub p.bytes ≡ Ok (x, g)
@@ -205,8 +209,8 @@ module _ (k : ℕ) where
       let r = enrol_is w.hub id list g p in
       let m = waiting_switch (find_switch s w.hub.switches) (w.ends s) y in
       subst (λ h. Waits (find_switch s h.switches) (w.ends s)) (sym r.0)
-      (subst (λ o. Waits o (w.ends s)) (sym (find_append s w.hub.switches (new_switch id list) ∙ ap (λ o. or_else o (cond (eqb id s) (Some (new_switch id list)) None)) m.1))
-      (subst (λ o. Waits o (w.ends s)) m.1 y))
+      (waits_found _ _ (w.ends s) m.0 m.0 m.1
+      (find_append s w.hub.switches (new_switch id list) ∙ ap (λ o. or_else o (cond (eqb id s) (Some (new_switch id list)) None)) m.1) (kept_same m.0) y)
   waits_move site s {w} (world.Move.sets half a v g p) i q y = waits_set s w a half v g p q y
   waits_move site s {w} (world.Move.sets_control id word g p) i q y =
       subst (λ h. Waits (find_switch s h.switches) (w.ends s)) (sym (control_is w.hub id word g p))
@@ -229,20 +233,13 @@ module _ (k : ℕ) where
       (focus_step w s t brought_back (λ m. refl) _ r.0 r.1
       (waits_withheld w.hub.store r.0 number (w.ends t) r.3 (subst (λ o. Here w.hub.store o (w.ends t)) r.1 (i.each t))) y)
   waits_move site s {w} (world.Move.refuses c x) i q y = subst (λ (h : HubModel). Waits (find_switch s h.switches) (w.ends s)) (sym (refused_leaves w.hub c x)) y
-  waits_move site s {w} (world.Move.arrives t p rest x) i q y =
-      end_alone w s t _ refl (gone_delivered (w.ends t) p rest x) y
-  waits_move site s {w} (world.Move.loses_packet t p rest x) i q y =
-      end_alone w s t _ refl (gone_lost (w.ends t) p rest x) y
-  waits_move site s {w} (world.Move.loses_payload t p rest x) i q y =
-      end_alone w s t _ refl (λ z. z) y
-  waits_move site s {w} (world.Move.answers t j bytes d ms said x) i q y =
-      end_alone w s t _ refl (λ z. z) y
-  waits_move site s {w} (world.Move.turns t a v bytes d ms l said z x) i q y =
-      end_alone w s t _ refl (λ z. z) y
-  waits_move site s {w} (world.Move.restarts t) i q y =
-      end_alone w s t _ refl (λ z. z) y
-  waits_move site s {w} (world.Move.reports t bytes d ms said z) i q y =
-      end_alone w s t _ refl (λ z. z) y
+  waits_move site s {w} (world.Move.arrives t p rest x) i q y = end_alone w s t _ refl (gone_delivered (w.ends t) p rest x) y
+  waits_move site s {w} (world.Move.loses_packet t p rest x) i q y = end_alone w s t _ refl (gone_lost (w.ends t) p rest x) y
+  waits_move site s {w} (world.Move.loses_payload t p rest x) i q y = end_alone w s t _ refl (λ z. z) y
+  waits_move site s {w} (world.Move.answers t j bytes d ms said x) i q y = end_alone w s t _ refl (λ z. z) y
+  waits_move site s {w} (world.Move.turns t a v bytes d ms l said z x) i q y = end_alone w s t _ refl (λ z. z) y
+  waits_move site s {w} (world.Move.restarts t) i q y = end_alone w s t _ refl (λ z. z) y
+  waits_move site s {w} (world.Move.reports t bytes d ms said z) i q y = end_alone w s t _ refl (λ z. z) y
 
   -- its answer taken: every item is settled
   clear_at_last : (m : SwitchModel) (e : End) → Delivered k e.line_to.delivered → Waits (Some m) e → Clear (settled_by (number_of k) m)
