@@ -138,7 +138,7 @@ impl<S: ActorStore> Hub<S> {
         let survey = check_messages(switch, payload)?;
         match words.sort() {
             Sort::Event => self.take_event(words.switch, payload, survey),
-            Sort::Answer(number) if number == switch.numbers().awaited => {
+            Sort::Answer(number) if switch.numbers().awaited == Some(number) => {
                 self.change(words.switch, |switch| switch.answer());
                 Ok((Arrival::Answer, survey.understood))
             }
