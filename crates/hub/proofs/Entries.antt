@@ -1,7 +1,7 @@
 -- A list of actors, checked entry by entry.
-use Rattle.std.proofs.Common.{◌≡◌, ℕ, ◌+◌, ◌<◌, ◌≤◌, Bool, true, false, cond, ◌||◌, eqb, List, [], ◌∷◌, ◌++◌, length, get_or, take, drop, is_some, Some, None, sym, refl, ap, ◌∙◌, arith}
-use Rattle.std.proofs.lemmas.List.{at_drop_all, at_drop_more, take_more}
-use Rattle.std.proofs.lemmas.Bool.{cond-false, cond-true, or_from}
+use Rattle.std.proofs.Common.{◌≡◌, ℕ, ◌+◌, ◌≤◌, Bool, true, false, cond, ◌||◌, eqb, List, [], ◌∷◌, ◌++◌, length, take, drop, is_some, Some, None, sym, refl, ◌∙◌, arith}
+use Rattle.std.proofs.lemmas.List.{at_drop_all}
+use Rattle.std.proofs.lemmas.Bool.{or_from}
 use Rattle.fault.specs.declared.Fault.TheVariants.{Store}
 use Rattle.fault.specs.declared.StoreFault.TheVariants.{ListEntry, UnknownActor}
 use Rattle.model.specs.Opening.{entry_fault}

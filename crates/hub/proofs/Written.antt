@@ -1,15 +1,17 @@
 -- Records written behind a draft.
-use Rattle.std.proofs.Common.{◌≡◌, ℕ, zero, suc, ◌+◌, ◌*◌, ◌<◌, ◌≤◌, Bool, true, false, cond, not, eqb, ltb, List, [], ◌∷◌, ◌++◌, length, get_or, take, drop, Ok, sym, refl, ap, ◌∙◌, subst, append_assoc, append-nil, arith}
+use Rattle.std.proofs.Common.{◌≡◌, ℕ, zero, suc, ◌+◌, ◌*◌, ◌<◌, ◌≤◌, Bool, true, false, cond, not, eqb, ltb, List, [], ◌∷◌, ◌++◌, length, get_or, take, drop, IfOk, Ok, Result, sym, refl, ap, ◌∙◌, subst, ap₂, append_assoc, append-nil, arith}
 use Rattle.std.proofs.lemmas.List.{drop-drop, length-append, take-append-drop, take_more}
 use Rattle.std.proofs.lemmas.Slice.{drop-put_mid}
 use Rattle.std.proofs.lemmas.Bool.{and_parts, cond-false, cond-true, not-true}
 use Rattle.std.specs.List.{flat_map}
+use Rattle.fault.specs.declared.Fault.{Fault}
+use Rattle.packet.specs.declared.drafting.Closed.{Closed}
 use Rattle.packet.specs.declared.drafting.Draft.{Draft}
 use Rattle.packet.specs.declared.records.Record.{Record}
 use Rattle.packet.specs.declared.records.Record.TheVariants.{Control}
 use Rattle.packet.specs.declared.words.Descriptor.{Descriptor}
 use Rattle.packet.specs.Drafts as drafts
-use Rattle.packet.specs.Drafts.{Drafting, ReadsBack, RecordFits, WordsFit, added, added_bytes, begun, begun_bytes, closed_bytes, full, length_of, open_bytes, over, size_of}
+use Rattle.packet.specs.Drafts.{Drafting, ReadsBack, RecordFits, WordsFit, added, added_bytes, begun, begun_bytes, closed, closed_bytes, full, length_of, open_bytes, over, size_of}
 use Rattle.packet.specs.Packets.{packet_bytes, record_bytes}
 use Rattle.packet.specs.Words.{major}
 use Rattle.packet.proofs.Spelling.{past, same_answer}
@@ -142,11 +144,16 @@ began w buf after d fit ok bytes room =
       beyond = λ n h. ap (drop n) (bytes ∙ written) ∙ drop_over buf (open_bytes w) 0 n h room;
     }
 
-pub finished : (d : Draft) (buf after : List ℕ) → size_of d ≤ length buf → full d 0 buf ≡ false → after ≡ closed_bytes d buf → ReadsBack d buf (take (size_of d) after) → Finished d buf after
-finished d buf after room free bytes back = record {
-  packet = λ w rs p. (back w rs p).0;
-  beyond = λ n h. ap (drop n) (bytes ∙ cond-false _ _ _ free) ∙ drop_over buf (word_bytes (size_of d)) 2 n (omega arith) (omega arith);
-}
+pub finished : (d : Draft) (buf after : List ℕ) (r : Result Closed (Fault × Draft)) (k : Closed) → r ≡ Ok k → r ≡ closed d buf → after ≡ closed_bytes d buf
+    → IfOk r (λ c. ReadsBack d buf (take c.length after)) → size_of d ≤ length buf → Finished d buf after
+finished d buf after r k ok answer bytes back room =
+    let granted = past (full d 0 buf) _ _ k (sym answer ∙ ok) in
+    let size : k.length ≡ size_of d = ap (λ (c : Closed). c.length) (sym (same_answer _ _ granted.1)) in
+    let reads : ReadsBack d buf (take k.length after) = subst (λ x. IfOk x (λ c. ReadsBack d buf (take c.length after))) ok back in
+    record {
+      packet = λ w rs p. (subst (λ (n : ℕ). ReadsBack d buf (take n after)) size reads w rs p).0;
+      beyond = λ n h. ap (drop n) (bytes ∙ cond-false _ _ _ granted.0) ∙ drop_over buf (word_bytes (size_of d)) 2 n (omega arith) (omega arith);
+    }
 
 pub control_long : (mark : Mark) (word : ℕ) → length (flat_map record_bytes (cond (is_outstanding mark) (Control word ∷ []) [])) ≡ cond (is_outstanding mark) 8 0
 control_long mark word = ways (is_outstanding mark)
@@ -163,7 +170,7 @@ packet_long w st m =
     let last = control_long m.mark m.control in
     omega arith
 
-pub actors_few : (xs : List Item) → outstanding_actors xs ≤ length xs
+actors_few : (xs : List Item) → outstanding_actors xs ≤ length xs
 unfolding outstanding_actors
 actors_few [] = omega arith
 actors_few (x ∷ xs) = ways (is_outstanding x.mark) (actors_few xs)
@@ -172,15 +179,15 @@ actors_few (x ∷ xs) = ways (is_outstanding x.mark) (actors_few xs)
     ways true ih = omega arith
     ways false ih = omega arith
 
-pub control_few : (mark : Mark) → cond (is_outstanding mark) 8 0 ≤ 8
-control_few mark = ways (is_outstanding mark)
+-- what each part of a packet takes is the length of all of it, for items and a mark that are the switch's; and that is at most a payload's
+pub packet_sized : (m : SwitchModel) (xs : List Item) (k : Mark) → xs ≡ m.items → k ≡ m.mark → length xs ≤ 64
+    → (16 + 12 * outstanding_actors xs + cond (is_outstanding k) 8 0 ≡ packet_length m) × (packet_length m ≤ 1472)
+packet_sized m xs k items mark few =
+    let same : 16 + 12 * outstanding_actors xs + cond (is_outstanding k) 8 0 ≡ packet_length m = ap₂ (λ (l : List Item) (x : Mark). 16 + 12 * outstanding_actors l + cond (is_outstanding x) 8 0) items mark in
+    let actors = actors_few xs in
+    let last = at_most (is_outstanding k) in
+    (same, omega arith)
   where
-    ways : (b : Bool) → cond b 8 0 ≤ 8
-    ways true = omega arith
-    ways false = omega arith
-
-pub control_same : (k m : Mark) → k ≡ m → cond {A = ℕ} (is_outstanding k) 8 0 ≡ cond (is_outstanding m) 8 0
-control_same k m e = ap (λ (x : Mark). cond {A = ℕ} (is_outstanding x) 8 0) e
-
-pub actors_same : (xs ys : List Item) → xs ≡ ys → outstanding_actors xs ≡ outstanding_actors ys
-actors_same xs ys e = ap outstanding_actors e
+    at_most : (b : Bool) → cond b 8 0 ≤ 8
+    at_most true = omega arith
+    at_most false = omega arith

@@ -7,6 +7,10 @@ use Rattle.packet.specs.declared.words.Descriptor.{Descriptor}
 use Rattle.packet.specs.Drafts.{Drafting, size_of}
 use Rattle.packet.specs.Packets.{packet_bytes, record_bytes}
 
+-- there is room for so many bytes behind a draft, in its buffer and in a payload
+abbrev pub HasRoom : Draft → List ℕ → ℕ → Type 0
+HasRoom d buf more = (size_of d + more ≤ length buf) × (size_of d + more ≤ 1472)
+
 -- The draft and its buffer have these records more, and what lies beyond them is as it was.
 pub record Wrote (d : Draft) (buf : List ℕ) (more : List Record) (e : Draft) (after : List ℕ) : Type 0 where
   pub drafting : (w : Descriptor) (rs : List Record) → Drafting w rs d buf → Drafting w (rs ++ more) e after

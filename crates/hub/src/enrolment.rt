@@ -11,29 +11,16 @@ use fault::{CallFault, Fault, StoreFault};
 use store::meaning::ActorStore;
 use switch::{MOST_ACTORS, Switch};
 
-// Whether an entry is zero, or repeats one before it.
-fn is_unfit(before: &[u16], actor: u16) -> bool
-    ensures { result ≡ (actor == 0 || lists before.now actor) }
-{
-    actor == 0 || switch::stands_in(before, actor)
-}
-
-fn is_known<S: ActorStore>(store: &S, actor: u16) -> bool
-    ensures { result ≡ is_some (S.meaning store.now actor) }
-{
-    store.read(actor).is_ok()
-}
-
 // Checks entry by entry that each stands there once and is known to the store.
 fn check_entries<S: ActorStore>(store: &S, actors: &[u16]) -> Result<(), Fault>
     ensures answer { result ≡ unless (entry_fault (S.meaning store.now) [] 0 actors.now) tt }
     ensures named { OnOk result (lists actors.now 0 ≡ false) }
 {
     for (i, actor) in actors.iter().enumerate() {
-        if is_unfit(&actors[..i], *actor) {
+        if *actor == 0 || switch::stands_in(&actors[..i], *actor) {
             return Err(Fault::Store(StoreFault::ListEntry, i));
         }
-        if !is_known(store, *actor) {
+        if store.read(*actor).is_err() {
             return Err(Fault::Store(StoreFault::UnknownActor, i));
         }
     }
@@ -60,25 +47,13 @@ impl<S: ActorStore> Hub<S> {
         check_entries(&self.store, actors)
     }
 
-    // Puts a switch behind the others.
-    fn add(&mut self, id: u16, actors: &[u16])
-        requires room { array_vec_len self.old.switches < 32 }
-        requires few { length actors.now ≤ 64 }
-        requires named { lists actors.now 0 ≡ false }
-        ensures { hub_model S.meaning self.new ≡ with_switches (switches_of (hub_model S.meaning self.old) ++ new_switch id actors.now ∷ []) (hub_model S.meaning self.old) }
-    {
-        if let Some(switch) = Switch::new(id, actors) {
-            self.switches.push(switch);
-        }
-    }
-
     // Enrols a switch with the actors that it lists, every item due.
     pub fn enrol(&mut self, id: u16, actors: &[u16]) -> Result<(), Fault>
         ensures answer { result ≡ answer_of (enrol_step (hub_model S.meaning self.old) id actors.now) }
         ensures after { hub_model S.meaning self.new ≡ hub_after (hub_model S.meaning self.old) (enrol_step (hub_model S.meaning self.old) id actors.now) }
     {
         self.may_enrol(id, actors)?;
-        self.add(id, actors);
+        self.switches.push(Switch::new(id, actors).unwrap());
         Ok(())
     }
 }

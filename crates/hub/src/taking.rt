@@ -67,10 +67,7 @@ fn next_message(cursor: &mut Cursor<'_>) -> Option<Message>
     ensures moves { OnSome result ((cursor.old.place < cursor.new.place) × (cursor.new.place ≤ length cursor.old.payload.now)) }
     ensures walked { Heard cursor.old.payload.now cursor.old.place cursor.new.place result }
 {
-    match cursor.next() {
-        Ok(next) => next.map(|(_, message)| message),
-        Err(_) => unreachable(),
-    }
+    cursor.next().unwrap().map(|(_, message)| message)
 }
 
 impl<S: ActorStore> Hub<S> {
@@ -141,7 +138,7 @@ impl<S: ActorStore> Hub<S> {
         let survey = check_messages(switch, payload)?;
         match words.sort() {
             Sort::Event => self.take_event(words.switch, payload, survey),
-            Sort::Answer(number) if number == switch.numbers().awaited => {
+            Sort::Answer(number) if switch.numbers().awaited == Some(number) => {
                 self.change(words.switch, |switch| switch.answer());
                 Ok((Arrival::Answer, survey.understood))
             }

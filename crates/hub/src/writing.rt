@@ -1,5 +1,5 @@
 // Writing a packet for a switch: its outstanding actors in list order, and last its control word.
-ghost use Rattle.std.specs.Prelude.{◌≡◌, ◌+◌, ◌*◌, ◌≤◌, true, false, [], ◌∷◌, ◌++◌, length, drop, is_ok, if◌then◌else◌, FitsSigned, ◌==◌};
+ghost use Rattle.std.specs.Prelude.{◌≡◌, ◌+◌, ◌*◌, ◌≤◌, true, false, [], ◌∷◌, ◌++◌, length, drop, IsOk, if◌then◌else◌, FitsSigned, ◌==◌};
 ghost use Rattle.std.specs.Int.{w16};
 ghost use Rattle.packet.specs.declared.records.Record.TheVariants.{Control};
 ghost use Rattle.packet.specs.Drafts.{RecordFits, added, size_of};
@@ -9,7 +9,7 @@ ghost use Rattle.model.specs.Composing.{actor_records, item_records, outstanding
 ghost use Rattle.model.specs.Marks.{is_outstanding};
 ghost use Rattle.switch.specs.Items.{all_named};
 ghost use Rattle.hub.specs.Compositions.{packet_length};
-ghost use Rattle.hub.specs.Writing.{Began, Finished, Wrote};
+ghost use Rattle.hub.specs.Writing.{Began, HasRoom, Finished, Wrote};
 
 use model::{Item, Mark};
 use packet::{Descriptor, Draft, Record};
@@ -18,13 +18,11 @@ use switch::Switch;
 
 // Adds a record for which there is room.
 fn add(draft: Draft, buf: &mut [u8], record: Record) -> Draft
-    requires { (is_ok (added «record» draft buf.old) ≡ true) × (RecordFits «record») }
+    requires granted { IsOk (added «record» draft buf.old) }
+    requires fits { RecordFits «record» }
     ensures { Wrote draft buf.old («record» ∷ []) result buf.new }
 {
-    match draft.add(buf, record) {
-        Ok(more) => more,
-        Err(_) => unreachable(),
-    }
+    draft.add(buf, record).unwrap()
 }
 
 // Both values of an actor.
@@ -32,15 +30,13 @@ fn values<S: ActorStore>(store: &S, actor: u16) -> (i16, i16)
     ensures answer { result ≡ values_of (S.meaning store.now actor) }
     ensures fits { FitsSigned w16 result.0 × FitsSigned w16 result.1 }
 {
-    match store.read(actor) {
-        Ok(pair) => pair,
-        Err(_) => (0, 0),
-    }
+    store.read(actor).unwrap_or((0, 0))
 }
 
 // Adds what an actor has to be told: RealValue, then EditValue.
 fn write_actor<S: ActorStore>(store: &S, actor: u16, draft: Draft, buf: &mut [u8]) -> Draft
-    requires { ((actor == 0) ≡ false) × ((size_of draft + 12 ≤ length buf.old) × (size_of draft + 12 ≤ 1472)) }
+    requires named { (actor == 0) ≡ false }
+    requires room { HasRoom draft buf.old 12 }
     ensures { Wrote draft buf.old (actor_records (S.meaning store.now) actor) result buf.new }
 {
     let (actual, target) = values(store, actor);
@@ -50,7 +46,8 @@ fn write_actor<S: ActorStore>(store: &S, actor: u16, draft: Draft, buf: &mut [u8
 
 // Adds what the outstanding actors have to be told, in list order.
 fn write_items<S: ActorStore>(store: &S, items: &[Item], mut draft: Draft, buf: &mut [u8]) -> Draft
-    requires { (all_named items.now ≡ true) × ((size_of draft + 12 * outstanding_actors items.now ≤ length buf.old) × (size_of draft + 12 * outstanding_actors items.now ≤ 1472)) }
+    requires named { all_named items.now ≡ true }
+    requires room { HasRoom draft buf.old (12 * outstanding_actors items.now) }
     ensures { Wrote draft buf.old (item_records (S.meaning store.now) items.now) result buf.new }
 {
     for item in items {
@@ -63,7 +60,7 @@ fn write_items<S: ActorStore>(store: &S, items: &[Item], mut draft: Draft, buf: 
 
 // Adds the control word, if it is outstanding.
 fn write_control(mark: Mark, word: u32, draft: Draft, buf: &mut [u8]) -> Draft
-    requires { (size_of draft + (if is_outstanding mark then 8 else 0) ≤ length buf.old) × (size_of draft + (if is_outstanding mark then 8 else 0) ≤ 1472) }
+    requires room { HasRoom draft buf.old (if is_outstanding mark then 8 else 0) }
     ensures { Wrote draft buf.old (if is_outstanding mark then Control word ∷ [] else []) result buf.new }
 {
     if mark.is_outstanding() {
@@ -75,24 +72,19 @@ fn write_control(mark: Mark, word: u32, draft: Draft, buf: &mut [u8]) -> Draft
 
 // Begins a draft in a buffer that has room for it, with a version that is ours.
 fn begin(buf: &mut [u8], words: Descriptor) -> Draft
-    requires { (major words.version ≡ 2) × (16 ≤ length buf.old) }
+    requires ours { major words.version ≡ 2 }
+    requires room { 16 ≤ length buf.old }
     ensures { Began words buf.old result buf.new }
 {
-    match Draft::begin(buf, words) {
-        Ok(draft) => draft,
-        Err(_) => unreachable(),
-    }
+    Draft::begin(buf, words).unwrap()
 }
 
 // Closes a draft in its buffer.
 fn finish(draft: Draft, buf: &mut [u8])
-    requires { (size_of draft ≤ length buf.old) × (size_of draft ≤ 1472) }
+    requires room { HasRoom draft buf.old 0 }
     ensures { Finished draft buf.old buf.new }
 {
-    match draft.close(buf) {
-        Ok(_) => {}
-        Err(_) => unreachable(),
-    }
+    draft.close(buf).unwrap();
 }
 
 // Writes the packet for a switch into a buffer that has room for it.
@@ -102,7 +94,8 @@ pub(crate) fn write_packet<S: ActorStore>(
     words: Descriptor,
     buf: &mut [u8],
 )
-    requires { (major words.version ≡ 2) × (packet_length switch.now ≤ length buf.old) }
+    requires ours { major words.version ≡ 2 }
+    requires room { packet_length switch.now ≤ length buf.old }
     ensures { buf.new ≡ packet_bytes words (records_for (S.meaning store.now) switch.now) ++ drop (packet_length switch.now) buf.old }
 {
     let draft = begin(buf, words);

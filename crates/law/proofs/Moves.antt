@@ -1,5 +1,5 @@
 -- Every move keeps what holds of the world.
-use Rattle.std.proofs.Common.{◌≡◌, ℕ, suc, ◌^◌, ◌<◌, ◌≤◌, Bool, true, false, cond, eqb, List, [], ◌∷◌, map, length, take, ℤ, is_some, Some, None, Ok, Option, sym, refl, ap, ◌∙◌, subst, inl, le_refl, arith}
+use Rattle.std.proofs.Common.{◌≡◌, ℕ, suc, ◌^◌, ◌<◌, ◌≤◌, Bool, true, false, cond, List, [], ◌∷◌, map, length, take, ℤ, is_some, Some, None, Ok, Option, sym, refl, ap, ◌∙◌, subst, inl, le_refl, arith}
 use Rattle.std.specs.Option.{option_map}
 use Rattle.std.specs.List.{AllByRecursion}
 use Rattle.std.proofs.lemmas.List.{length-map}
@@ -14,7 +14,7 @@ use Rattle.model.specs.declared.mark.Mark.TheVariants.{Due}
 use Rattle.model.specs.declared.told.Arrival.{Arrival}
 use Rattle.model.specs.declared.told.Site.{Site}
 use Rattle.model.specs.Composing.{Composition, brought_back, closed_slip, compose, composed, composed_bytes, records_for, words_for}
-use Rattle.model.specs.Models.{HubModel, SwitchModel, change_switch, find_switch, lists_actor, touched, with_control}
+use Rattle.model.specs.Models.{HubModel, SwitchModel, change_switch, find_switch, is_number, lists_actor, touched, with_control}
 use Rattle.model.specs.Opening.{due_item, enrol, new_switch}
 use Rattle.model.specs.Settings.{set_control, with_value}
 use Rattle.model.specs.Taking.{answered, take_payload}
@@ -180,7 +180,7 @@ module _ (words : Site) where
   keep_settled : (w : World) (s number : ℕ) (m : SwitchModel) (e : End) → find_switch s w.hub.switches ≡ Some m
       → (Here w.hub.store (Some m) (w.ends s) → Here w.hub.store (Some (settled_by number m)) e)
       → Holds words w → Holds words (with_end s e (with_hub (answered_if number m w.hub s) w))
-  keep_settled w s number m e q g i = go (eqb number m.numbers.awaited) g
+  keep_settled w s number m e q g i = go (is_number m.numbers.awaited number) g
     where
       go : (b : Bool) → (Here w.hub.store (Some m) (w.ends s) → Here w.hub.store (Some (cond b (answered m) m)) e)
           → Holds words (with_end s e (with_hub (cond b (change_switch s answered w.hub) w.hub) w))

@@ -23,9 +23,7 @@ write_actor-draft-requires g c =
     let long = items_long st (take i xs) in
     let room = actors_room xs i blank_item c.loop-item-test.true (sym c.if-is_outstanding.ensures) in
     let kept = c.loop-item.auto.buf in
-    let first = c.requires.1.0 in
-    let second = c.requires.1.1 in
-    (item_named xs i blank_item c.loop-item-test.true c.requires.0, (omega arith, omega arith))
+    record { named = item_named xs i blank_item c.loop-item-test.true c.requires.named; room = (omega arith, omega arith) }
 
 pub loop-item-preserved : goal.loop-item-preserved
 loop-item-preserved g c =
