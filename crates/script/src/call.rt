@@ -3,14 +3,14 @@ use crate::actors::Actors;
 use model::Site;
 
 // The store that a hub is opened over: a table of actors, or an image by its hexadecimal text.
-#[derive(Drop)]
+#[derive(PartialEq, Eq, Debug, Drop)]
 pub enum Store<'a> {
     Table(Actors),
     Image(&'a [u8]),
 }
 
 // A call as a line of a script has it; a payload is the hexadecimal text of the line.
-#[derive(Drop)]
+#[derive(PartialEq, Eq, Debug, Drop)]
 pub enum Call<'a> {
     Open { site: Site, store: Store<'a> },
     Enrol { switch: u16, actors: Actors },

@@ -10,11 +10,9 @@ use crate::opening::open;
 use crate::parts::{Part, SPACE, any_word, two};
 use crate::verb::Verb;
 use crate::words::cut;
+use packet::PAYLOAD_MOST;
 
-// The longest packet, and so the longest buffer that is of use.
-const ROOM_MOST: u32 = 1472;
-
-// The room for a packet.
+// The room for a packet. No longer buffer is of use than the longest packet.
 #[derive(Drop)]
 struct Room {
     bytes: usize,
@@ -25,7 +23,7 @@ impl Part for Room {
 
     fn read(text: &[u8]) -> Option<Self> {
         Some(Room {
-            bytes: number(text, ROOM_MOST)? as usize,
+            bytes: number(text, PAYLOAD_MOST as u32)? as usize,
         })
     }
 }
