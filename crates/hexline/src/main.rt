@@ -6,6 +6,7 @@ ghost use Rattle.model.specs.Composing.{sent};
 ghost use Rattle.hub.specs.Memory.{hub_model};
 
 use fault::Fault;
+use hexadecimal::Digits;
 use hub::{Composed, Hub, Slip};
 use model::{Arrival, Site};
 use packet::PAYLOAD_MOST;
@@ -23,52 +24,35 @@ const SITE: Site = Site {
 
 // Switch 7 lists actors 1 and 2, and switch 8 lists actor 2.
 fn open_hub() -> Result<Hub<Table>, Fault> {
-    let mut hub = match Hub::open(Table::open(&[1, 2])?, SITE) {
-        Ok(hub) => hub,
-        Err(back) => return Err(back.0),
-    };
+    let mut hub = Hub::open(Table::open(&[1, 2])?, SITE).map_err(|(fault, _)| fault)?;
     hub.enrol(7, &[1, 2])?;
     hub.enrol(8, &[2])?;
     Ok(hub)
 }
 
 fn show_refusal(rt: &impl Print, fault: Fault) -> io::Result<()> {
-    let number = fault.number();
-    let place = fault.place();
-    println!(rt; "refused {number} {place}")
+    println!(rt; "refused {fault}")
 }
 
 // Reads the payload that a line spells, and gives it to the hub.
 fn hear<S: ActorStore>(hub: &mut Hub<S>, line: &[u8]) -> Result<(Arrival, usize), Fault> {
     let mut payload = [0; PAYLOAD_MOST];
     let length = hexadecimal::decode(line, &mut payload)?;
-    hub.take(&payload[0..length])
+    hub.take(&payload[..length])
 }
 
 fn show_line<S: ActorStore>(rt: &impl Print, hub: &mut Hub<S>, line: &[u8]) -> io::Result<()> {
     match hear(hub, line) {
-        Ok((Arrival::Event, count)) => println!(rt; "event {count}"),
-        Ok((Arrival::Answer, count)) => println!(rt; "answer {count}"),
-        Ok((Arrival::Stale, count)) => println!(rt; "stale {count}"),
+        Ok((arrival, count)) => println!(rt; "{arrival} {count}"),
         Err(fault) => show_refusal(rt, fault),
     }
 }
 
 fn show_lines<S: ActorStore>(rt: &impl Print, hub: &mut Hub<S>, text: &[u8]) -> io::Result<()> {
-    let mut left = text;
-    while let Some((line, rest)) = hexadecimal::next_line(left) {
+    for line in hexadecimal::lines(text) {
         show_line(rt, hub, line)?;
-        left = rest;
     }
     Ok(())
-}
-
-// Shows a packet as upper-case digits on a line of its own.
-fn show_packet(rt: &impl Print, packet: &[u8]) -> io::Result<()> {
-    for byte in packet {
-        print!(rt; "{byte:02X}")?;
-    }
-    println!(rt; "")
 }
 
 // Hands in a slip that the hub is known to have open.
@@ -96,7 +80,7 @@ fn tell_by<S: ActorStore>(
                 slip,
             },
         ) => {
-            let shown = show_packet(rt, &buf[0..length]);
+            let shown = rt.println(Digits(&buf[..length]));
             hand_in(hub, slip);
             shown
         }

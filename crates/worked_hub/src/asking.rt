@@ -1,12 +1,13 @@
 // Settings and questions.
 use crate::house::*;
+use model::Mark;
 use std::test::Fail;
 
 #[test]
 fn control_words(rt: HostRuntime) -> Result<(), Fail> {
     let mut hub = house()?;
     hub.set_control(7, 0x130)?;
-    assert!(rt; is_due(hub.control_mark(7)));
+    assert_eq!(rt; hub.control_mark(7), Ok(Mark::Due));
     // bit 8 must be set, and bit 6 must not
     assert_eq!(rt; refused(hub.set_control(7, 0x30)), Some((13, 0)));
     assert_eq!(rt; refused(hub.set_control(7, 0x170)), Some((13, 0)));
@@ -28,7 +29,7 @@ fn values(rt: HostRuntime) -> Result<(), Fail> {
 #[test]
 fn questions(rt: HostRuntime) -> Result<(), Fail> {
     let hub = house()?;
-    assert!(rt; is_due(hub.actor_mark(7, 1)));
+    assert_eq!(rt; hub.actor_mark(7, 1), Ok(Mark::Due));
     assert_eq!(rt; refused(hub.actor_mark(7, 3)), Some((10, 0)));
     assert_eq!(rt; refused(hub.actor_mark(9, 1)), Some((6, 0)));
     assert_eq!(rt; refused(hub.control_mark(9)), Some((6, 0)));

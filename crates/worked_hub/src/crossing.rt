@@ -3,6 +3,7 @@ use crate::house::*;
 use crate::sending::send;
 use fault::Fault;
 use hub::Hub;
+use model::{Arrival, Mark};
 use std::test::Fail;
 use store::table::Table;
 
@@ -18,10 +19,10 @@ fn crossing(rt: HostRuntime) -> Result<(), Fail> {
         [0x06_u8, 0x42, 0x01, 0x00, 0xDC, 0x00].as_slice()
     );
     hub.set_target(1, 230)?;
-    assert_eq!(rt; told(&mut hub, &packet), Ok(('a', 5)));
-    assert!(rt; is_due(hub.actor_mark(7, 1)));
-    assert!(rt; is_settled(hub.actor_mark(7, 2)));
-    assert!(rt; is_settled(hub.control_mark(7)));
+    assert_eq!(rt; told(&mut hub, &packet), Ok((Arrival::Answer, 5)));
+    assert_eq!(rt; hub.actor_mark(7, 1), Ok(Mark::Due));
+    assert_eq!(rt; hub.actor_mark(7, 2), Ok(Mark::Settled));
+    assert_eq!(rt; hub.control_mark(7), Ok(Mark::Settled));
     let mut next = [0xFF; 30];
     assert_eq!(rt; send(&mut hub, 7, &mut next)?, (28, 1, 2));
     assert_eq!(rt;
@@ -31,7 +32,7 @@ fn crossing(rt: HostRuntime) -> Result<(), Fail> {
         ]
         .as_slice()
     );
-    assert_eq!(rt; told(&mut hub, &next[0..28]), Ok(('a', 2)));
+    assert_eq!(rt; told(&mut hub, &next[0..28]), Ok((Arrival::Answer, 2)));
     assert!(rt; !hub.has_outstanding(7)?);
     assert_eq!(rt; refused(send(&mut hub, 7, &mut next)), Some((19, 0)));
     Ok(())

@@ -1,9 +1,9 @@
-// A hub to try things on, and answers in a form that can be compared.
+// A hub to try things on, and refusals by number and place.
 ghost use Rattle.std.specs.Prelude.{◌≡◌, ◌+◌, ◌<◌, ◌≤◌, length};
 
 use fault::Fault;
 use hub::Hub;
-use model::{Arrival, Mark, Site};
+use model::{Arrival, Site};
 use store::table::Table;
 
 pub(crate) const SITE: Site = Site {
@@ -15,10 +15,7 @@ pub(crate) const SITE: Site = Site {
 
 // A hub with no switch over actors 1 to 4.
 pub(crate) fn empty() -> Result<Hub<Table>, Fault> {
-    match Hub::open(Table::open(&[1, 2, 3, 4])?, SITE) {
-        Ok(hub) => Ok(hub),
-        Err(back) => Err(back.0),
-    }
+    Hub::open(Table::open(&[1, 2, 3, 4])?, SITE).map_err(|(fault, _)| fault)
 }
 
 // Switch 7 lists actors 1 and 2, and switch 8 lists actors 2 and 3.
@@ -29,26 +26,13 @@ pub(crate) fn house() -> Result<Hub<Table>, Fault> {
     Ok(hub)
 }
 
-// Number and place of a refusal.
+// Number and place of a refusal, as documents and logs know it.
+fn numbered(fault: Fault) -> (u8, usize) {
+    (fault.number(), fault.place())
+}
+
 pub(crate) fn refused<T: Drop>(answer: Result<T, Fault>) -> Option<(u8, usize)> {
-    match answer {
-        Ok(_) => None,
-        Err(fault) => Some((fault.number(), fault.place())),
-    }
-}
-
-pub(crate) fn is_due(answer: Result<Mark, Fault>) -> bool {
-    match answer {
-        Ok(Mark::Due) => true,
-        _ => false,
-    }
-}
-
-pub(crate) fn is_settled(answer: Result<Mark, Fault>) -> bool {
-    match answer {
-        Ok(Mark::Settled) => true,
-        _ => false,
-    }
+    answer.err().map(numbered)
 }
 
 // A descriptor of switch 8 in an event, which says 16 bytes.
@@ -56,19 +40,15 @@ const BARE: [u8; 16] = [
     0x01, 0x86, 0x10, 0x00, 0x01, 0x02, 0x00, 0x00, 0x34, 0x12, 0x00, 0x00, 0x08, 0x00, 0x05, 0x00,
 ];
 
-// What a payload was, 'e' an event, 'a' the awaited answer or 's' a stale one, and how many of its messages count; or number and place of its refusal.
-pub(crate) fn told(hub: &mut Hub<Table>, payload: &[u8]) -> Result<(char, usize), (u8, usize)> {
-    match hub.take(payload) {
-        Ok((Arrival::Event, count)) => Ok(('e', count)),
-        Ok((Arrival::Answer, count)) => Ok(('a', count)),
-        Ok((Arrival::Stale, count)) => Ok(('s', count)),
-        Err(fault) => Err((fault.number(), fault.place())),
-    }
+// What a payload was and how many of its messages count; or number and place of its refusal.
+pub(crate) fn told(hub: &mut Hub<Table>, payload: &[u8]) -> Result<(Arrival, usize), (u8, usize)> {
+    hub.take(payload).map_err(numbered)
 }
 
 // Lays the bare descriptor over the front of a payload, with the payload's length and this package number.
 fn frame(payload: &mut [u8], number: u16)
-    requires { (16 ≤ length payload.old) × (length payload.old < 65536) }
+    requires least { 16 ≤ length payload.old }
+    requires most { length payload.old < 65536 }
 {
     let length = payload.len() as u16;
     payload[0..16].copy_from_slice(&BARE);
@@ -81,8 +61,9 @@ fn joined(
     payload: &mut [u8],
     number: u16,
     messages: &[u8],
-) -> Result<(char, usize), (u8, usize)>
-    requires { (length payload.old ≡ 16 + length messages.now) × (length payload.old < 65536) }
+) -> Result<(Arrival, usize), (u8, usize)>
+    requires exact { length payload.old ≡ 16 + length messages.now }
+    requires most { length payload.old < 65536 }
 {
     frame(payload, number);
     payload[16..].copy_from_slice(messages);
@@ -94,7 +75,7 @@ pub(crate) fn behind(
     hub: &mut Hub<Table>,
     number: u16,
     messages: &[u8],
-) -> Result<(char, usize), (u8, usize)>
+) -> Result<(Arrival, usize), (u8, usize)>
     requires { length messages.now ≤ 48 }
 {
     let mut room = [0; 64];

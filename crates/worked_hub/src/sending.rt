@@ -22,18 +22,12 @@ pub(crate) fn send<S: ActorStore>(
     id: u16,
     buf: &mut [u8],
 ) -> Result<(usize, usize, u16), Fault> {
-    match hub.compose(id, buf) {
-        Ok(
-            Composed {
-                length,
-                actors,
-                slip,
-            },
-        ) => {
-            let number = slip.number();
-            hand_in(hub, slip);
-            Ok((length, actors, number))
-        }
-        Err(fault) => Err(fault),
-    }
+    let Composed {
+        length,
+        actors,
+        slip,
+    } = hub.compose(id, buf)?;
+    let number = slip.number();
+    hand_in(hub, slip);
+    Ok((length, actors, number))
 }

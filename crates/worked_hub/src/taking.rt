@@ -1,6 +1,6 @@
 // Payloads of switches, and what the hub makes of them.
 use crate::house::*;
-use model::KeyPress;
+use model::{Arrival, KeyPress, Mark};
 use std::test::Fail;
 
 // An event of switch 8: EditValue, actor 2, target 215.
@@ -8,27 +8,20 @@ const EDIT: [u8; 22] = [
     0x01, 0x86, 22, 0, 0x01, 0x02, 0, 0, 0x34, 0x12, 0, 0, 8, 0, 5, 0, 0x06, 0x42, 2, 0, 0xD7, 0,
 ];
 
-fn key_of(press: Option<KeyPress>) -> Option<(u16, u8)> {
-    match press {
-        Some(press) => Some((press.actor, press.key)),
-        None => None,
-    }
-}
-
 // Every item is due from enrolment on, and nothing is sent here: due is what an item stays.
 #[test]
 fn edit_value(rt: HostRuntime) -> Result<(), Fail> {
     let mut hub = house()?;
-    assert_eq!(rt; told(&mut hub, &EDIT), Ok(('e', 1)));
-    assert!(rt; is_due(hub.actor_mark(7, 2)));
-    assert!(rt; is_due(hub.actor_mark(8, 2)));
+    assert_eq!(rt; told(&mut hub, &EDIT), Ok((Arrival::Event, 1)));
+    assert_eq!(rt; hub.actor_mark(7, 2), Ok(Mark::Due));
+    assert_eq!(rt; hub.actor_mark(8, 2), Ok(Mark::Due));
     Ok(())
 }
 
 #[test]
 fn telling(rt: HostRuntime) -> Result<(), Fail> {
     let mut hub = house()?;
-    assert_eq!(rt; key_of(hub.latest_key(8)?), None);
+    assert_eq!(rt; hub.latest_key(8)?, None);
     assert_eq!(rt; hub.reading(8)?, None);
     assert_eq!(rt;
         behind(
@@ -36,12 +29,12 @@ fn telling(rt: HostRuntime) -> Result<(), Fail> {
             0,
             &[0x06, 0x51, 2, 0, 0x03, 0, 0x08, 0x71, 0, 0, 0xD7, 0, 1, 0],
         ),
-        Ok(('e', 2))
+        Ok((Arrival::Event, 2))
     );
-    assert_eq!(rt; key_of(hub.latest_key(8)?), Some((2, 3)));
+    assert_eq!(rt; hub.latest_key(8)?, Some(KeyPress { actor: 2, key: 3 }));
     assert_eq!(rt; hub.reading(8)?, Some(215));
     // what switch 8 told is not told of switch 7
-    assert_eq!(rt; key_of(hub.latest_key(7)?), None);
+    assert_eq!(rt; hub.latest_key(7)?, None);
     assert_eq!(rt; hub.reading(7)?, None);
     Ok(())
 }
@@ -51,13 +44,13 @@ fn init_request(rt: HostRuntime) -> Result<(), Fail> {
     let mut hub = house()?;
     assert_eq!(rt;
         behind(&mut hub, 0, &[0x08, 0x01, 0, 0, 0x40, 0, 0, 0]),
-        Ok(('e', 1))
+        Ok((Arrival::Event, 1))
     );
     assert_eq!(rt; hub.flags(8)?, 0x40);
     assert_eq!(rt; hub.flags(7)?, 0);
-    assert!(rt; is_due(hub.actor_mark(8, 2)));
-    assert!(rt; is_due(hub.actor_mark(8, 3)));
-    assert!(rt; is_due(hub.control_mark(8)));
+    assert_eq!(rt; hub.actor_mark(8, 2), Ok(Mark::Due));
+    assert_eq!(rt; hub.actor_mark(8, 3), Ok(Mark::Due));
+    assert_eq!(rt; hub.control_mark(8), Ok(Mark::Due));
     assert!(rt; hub.has_outstanding(8)?);
     Ok(())
 }
@@ -66,24 +59,24 @@ fn init_request(rt: HostRuntime) -> Result<(), Fail> {
 #[test]
 fn counts(rt: HostRuntime) -> Result<(), Fail> {
     let mut hub = house()?;
-    assert_eq!(rt; behind(&mut hub, 0, &[]), Ok(('e', 0)));
+    assert_eq!(rt; behind(&mut hub, 0, &[]), Ok((Arrival::Event, 0)));
     assert_eq!(rt;
         behind(
             &mut hub,
             0,
             &[0x04, 0xF0, 0, 0, 0x06, 0x42, 2, 0, 0xFF, 0x7F],
         ),
-        Ok(('e', 1))
+        Ok((Arrival::Event, 1))
     );
     // nothing was sent to switch 8, so it owes no answer
     assert_eq!(rt;
         behind(&mut hub, 1, &[0x06, 0x42, 2, 0, 0xD7, 0]),
-        Ok(('s', 1))
+        Ok((Arrival::Stale, 1))
     );
     // an answer may repeat what is not listed
     assert_eq!(rt;
         behind(&mut hub, 1, &[0x06, 0x42, 1, 0, 0xD7, 0]),
-        Ok(('s', 1))
+        Ok((Arrival::Stale, 1))
     );
     Ok(())
 }
