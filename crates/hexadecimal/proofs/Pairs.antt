@@ -13,13 +13,13 @@ length_bytes_of (a ∷ []) n h = absurd (omega arith)
 length_bytes_of (a ∷ b ∷ s) zero h = absurd (omega arith)
 length_bytes_of (a ∷ b ∷ s) (suc n) h = ap suc (length_bytes_of s n (omega arith))
 
-pub get_or_bytes_of : (s : List ℕ) (n i : ℕ) → length s ≡ 2 * n → i < n → get_or (bytes_of s) i 0 ≡ value_of (get_or (get_or (first_chunks 2 n s) i []) 0 0) * 16 + value_of (get_or (get_or (first_chunks 2 n s) i []) 1 0)
+pub byte_of_pair : (s : List ℕ) (n i : ℕ) → length s ≡ 2 * n → i < n → get_or (bytes_of s) i 0 ≡ value_of (get_or (get_or (first_chunks 2 n s) i []) 0 0) * 16 + value_of (get_or (get_or (first_chunks 2 n s) i []) 1 0)
 unfolding bytes_of
-get_or_bytes_of [] n i even h = absurd (omega arith)
-get_or_bytes_of (a ∷ []) n i even h = absurd (omega arith)
-get_or_bytes_of (a ∷ b ∷ s) zero i even h = absurd (omega arith)
-get_or_bytes_of (a ∷ b ∷ s) (suc n) zero even h = refl
-get_or_bytes_of (a ∷ b ∷ s) (suc n) (suc i) even h = get_or_bytes_of s n i (omega arith) (omega arith)
+byte_of_pair [] n i even h = absurd (omega arith)
+byte_of_pair (a ∷ []) n i even h = absurd (omega arith)
+byte_of_pair (a ∷ b ∷ s) zero i even h = absurd (omega arith)
+byte_of_pair (a ∷ b ∷ s) (suc n) zero even h = refl
+byte_of_pair (a ∷ b ∷ s) (suc n) (suc i) even h = byte_of_pair s n i (omega arith) (omega arith)
 
 pub length_digits_of : (s : List ℕ) → length (digits_of s) ≡ 2 * length s
 unfolding digits_of

@@ -3,7 +3,7 @@ use Rattle.std.proofs.lemmas.List.{take_all, take_more, take_more_set}
 use Rattle.std.specs.Simd.{first_chunks}
 use Rattle.hexadecimal.specs.Digit.{value_of}
 use Rattle.hexadecimal.specs.Decoding.{bytes_of}
-use Rattle.hexadecimal.proofs.Pairs.{length_bytes_of, get_or_bytes_of}
+use Rattle.hexadecimal.proofs.Pairs.{length_bytes_of, byte_of_pair}
 use Rattle.hexadecimal.proofs.reading.fill.Goals as goal
 
 pub loop-i-preserved : goal.loop-i-preserved
@@ -14,7 +14,7 @@ loop-i-preserved c =
     let long = length_bytes_of s n c.requires in
     let half : length s / 2 ≡ n = omega arith in
     let pairs = c.as_chunks.ensures.front ∙ ap (λ (k : ℕ). first_chunks 2 k s) half in
-    let byte = c.joined.ensures ∙ ap (λ (ps : List (List ℕ)). value_of (get_or (get_or ps i []) 0 0) * 16 + value_of (get_or (get_or ps i []) 1 0)) pairs ∙ sym (get_or_bytes_of s n i c.requires (omega arith)) in
+    let byte = c.joined.ensures ∙ ap (λ (ps : List (List ℕ)). value_of (get_or (get_or ps i []) 0 0) * 16 + value_of (get_or (get_or ps i []) 1 0)) pairs ∙ sym (byte_of_pair s n i c.requires (omega arith)) in
     take_more_set c.loop-i.out i c.joined.result (omega arith) ∙ ap₂ (λ (xs : List ℕ) (x : ℕ). xs ++ x ∷ []) c.loop-i.invariant byte ∙ sym (take_more (bytes_of s) i 0 (omega arith))
 
 pub returns : goal.returns
