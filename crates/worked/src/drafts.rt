@@ -1,7 +1,7 @@
 // Drafts, and how what they write reads back.
+use crate::payloads::{gives, refused};
 use fault::Fault;
 use packet::{Cursor, Descriptor, Draft, Message, Packet, Record};
-use std::process::Abort;
 use std::test::Fail;
 
 const WORDS: Descriptor = Descriptor {
@@ -15,18 +15,13 @@ const WORDS: Descriptor = Descriptor {
 
 // Adds a record, or lets the draft go and tells the fault.
 fn added(draft: Draft, buf: &mut [u8], record: Record) -> Result<Draft, Fault> {
-    match draft.add(buf, record) {
-        Ok(draft) => Ok(draft),
-        Err((fault, _)) => Err(fault),
-    }
+    draft.add(buf, record).map_err(|(fault, _)| fault)
 }
 
 // Closes the draft, and tells the packet's length.
 fn closed(draft: Draft, buf: &mut [u8]) -> Result<usize, Fault> {
-    match draft.close(buf) {
-        Ok(packet) => Ok(packet.length()),
-        Err((fault, _)) => Err(fault),
-    }
+    let packet = draft.close(buf).map_err(|(fault, _)| fault)?;
+    Ok(packet.length())
 }
 
 // The actual value and the target that the refresh tells of an actor.
@@ -58,24 +53,12 @@ fn packed(buf: &mut [u8]) -> Result<Draft, Fault> {
 
 // The number and the place of the refusal to begin a draft.
 fn unbegun(buf: &mut [u8], words: Descriptor) -> Option<(u8, usize)> {
-    match Draft::begin(buf, words) {
-        Ok(_) => None,
-        Err(fault) => Some((fault.number(), fault.place())),
-    }
+    Draft::begin(buf, words).err().map(refused)
 }
 
 // The number of the fault with which one more record is refused.
 fn refusal(draft: Draft, buf: &mut [u8], record: Record) -> Option<u8> {
-    match added(draft, buf, record) {
-        Ok(_) => None,
-        Err(fault) => Some(fault.number()),
-    }
-}
-
-// Checks which record a cursor gives next, and at which offset.
-fn gives(rt: &impl Abort, cursor: &mut Cursor, place: usize, record: Record) -> Result<(), Fail> {
-    assert_eq!(rt; cursor.next()?, Some((place, Message::Known(record))));
-    Ok(())
+    added(draft, buf, record).err().map(|fault| fault.number())
 }
 
 #[test]
@@ -89,15 +72,17 @@ fn full_refresh(rt: HostRuntime) -> Result<(), Fail> {
     for actor in 1..65u16 {
         let (actual, target) = values_of(actor);
         let place = 4 + 12 * actor as usize;
-        gives(&rt, &mut cursor, place, Record::RealValue { actor, actual })?;
-        gives(
-            &rt,
-            &mut cursor,
-            place + 6,
-            Record::EditValue { actor, target },
-        )?;
+        let first = Message::Known(Record::RealValue { actor, actual });
+        let second = Message::Known(Record::EditValue { actor, target });
+        gives(&rt, &mut cursor, place, first)?;
+        gives(&rt, &mut cursor, place + 6, second)?;
     }
-    gives(&rt, &mut cursor, 784, Record::Control(0x130))?;
+    gives(
+        &rt,
+        &mut cursor,
+        784,
+        Message::Known(Record::Control(0x130)),
+    )?;
     assert_eq!(rt; cursor.next()?, None);
     Ok(())
 }
@@ -148,13 +133,11 @@ fn refusals(rt: HostRuntime) -> Result<(), Fail> {
 fn longest(rt: HostRuntime) -> Result<(), Fail> {
     let mut buf = [0; 1600];
     let full = packed(&mut buf)?;
-    match full.add(&mut buf, Record::Event { actor: 1, key: 1 }) {
-        Ok(_) => Err(Fail::new("the draft has grown past a payload's most")),
-        Err((fault, full)) => {
-            assert_eq!(rt; fault.number(), 20);
-            assert_eq!(rt; closed(full, &mut buf)?, 1472);
-            assert_eq!(rt; Packet::read(&buf[0..1472])?.understood, 182);
-            Ok(())
-        }
-    }
+    let Err((fault, full)) = full.add(&mut buf, Record::Event { actor: 1, key: 1 }) else {
+        return Err(Fail::new("the draft has grown past a payload's most"));
+    };
+    assert_eq!(rt; fault.number(), 20);
+    assert_eq!(rt; closed(full, &mut buf)?, 1472);
+    assert_eq!(rt; Packet::read(&buf[0..1472])?.understood, 182);
+    Ok(())
 }

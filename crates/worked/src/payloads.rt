@@ -1,6 +1,7 @@
 // Payloads, and what the reader makes of them.
 ghost use Rattle.std.specs.Prelude.{◌≡◌, ◌+◌, ◌<◌, ◌≤◌, length};
 
+use fault::Fault;
 use packet::{Cursor, Message, Packet, Record};
 use std::process::Abort;
 use std::test::Fail;
@@ -10,17 +11,21 @@ const BARE: [u8; 16] = [
     0x01, 0x86, 0x10, 0x00, 0x01, 0x02, 0x00, 0x00, 0x34, 0x12, 0x03, 0x02, 0x08, 0x00, 0x05, 0x00,
 ];
 
-// How many messages of a payload are understood, or the number and the place of its refusal.
+// The number and the place of a refusal.
+pub fn refused(fault: Fault) -> (u8, usize) {
+    (fault.number(), fault.place())
+}
+
+// How many messages of a payload are understood, or its refusal.
 fn told(payload: &[u8]) -> Result<usize, (u8, usize)> {
-    match Packet::read(payload) {
-        Ok(packet) => Ok(packet.understood),
-        Err(fault) => Err((fault.number(), fault.place())),
-    }
+    let packet = Packet::read(payload).map_err(refused)?;
+    Ok(packet.understood)
 }
 
 // Lays the bare descriptor over the front of a payload, with the payload's length.
 fn frame(payload: &mut [u8])
-    requires { (16 ≤ length payload.old) × (length payload.old < 65536) }
+    requires least { 16 ≤ length payload.old }
+    requires most { length payload.old < 65536 }
 {
     let length = payload.len() as u16;
     payload[0..16].copy_from_slice(&BARE);
@@ -29,18 +34,13 @@ fn frame(payload: &mut [u8])
 
 // Fills the room with messages of four bytes that no kind knows.
 fn fill_unknown(room: &mut [u8]) {
-    for (i, byte) in room.iter_mut().enumerate() {
-        match i % 4 {
-            0 => *byte = 0x04,
-            1 => *byte = 0xF0,
-            _ => *byte = 0,
-        }
-    }
+    room.as_chunks_mut().0.fill([0x04, 0xF0, 0, 0]);
 }
 
 // What is told of a descriptor and these messages, which fill the payload.
 fn joined(payload: &mut [u8], messages: &[u8]) -> Result<usize, (u8, usize)>
-    requires { (length payload.old ≡ 16 + length messages.now) × (length payload.old < 65536) }
+    requires filled { length payload.old ≡ 16 + length messages.now }
+    requires most { length payload.old < 65536 }
 {
     frame(payload);
     payload[16..].copy_from_slice(messages);
@@ -62,7 +62,12 @@ fn reads(rt: &impl Abort, message: &[u8], record: Record) -> Result<(), Fail> {
 }
 
 // Checks which message a cursor gives next, and at which offset.
-fn gives(rt: &impl Abort, cursor: &mut Cursor, place: usize, message: Message) -> Result<(), Fail> {
+pub fn gives(
+    rt: &impl Abort,
+    cursor: &mut Cursor,
+    place: usize,
+    message: Message,
+) -> Result<(), Fail> {
     assert_eq!(rt; cursor.next()?, Some((place, message)));
     Ok(())
 }
