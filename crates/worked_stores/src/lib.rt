@@ -1,6 +1,8 @@
 // Worked examples of the actor stores: every expected value follows from the rules by hand.
 #![tactic(auto)]
 
+ghost use Rattle.std.specs.Prelude.{◌≡◌, length};
+
 #[cfg(test)]
 mod tests {
     use fault::Fault;
@@ -11,31 +13,30 @@ mod tests {
     use store::readback::put_and_read;
     use store::table::Table;
 
-    // Number and place of a refusal.
+    // Number and place of a refusal. worked_hub has the same two lines: a crate of their own for them would be no plainer.
     fn refused<T: Drop>(answer: Result<T, Fault>) -> Option<(u8, usize)> {
-        match answer {
-            Ok(_) => None,
-            Err(fault) => Some((fault.number(), fault.place())),
-        }
+        let fault = answer.err()?;
+        Some((fault.number(), fault.place()))
     }
 
     // Actors 1 to 257.
-    fn numbered() -> [u16; 257] {
+    fn numbered() -> [u16; 257]
+        ensures { length result ≡ 257 }
+    {
         let mut list = [0; 257];
-        for i in 0..257u16 {
-            list[i as usize] = i + 1;
+        for (entry, actor) in list.iter_mut().zip(1..=257) {
+            *entry = actor;
         }
         list
     }
 
     // The head of a block, with all values 0.
-    fn block_of(pages: u8, length: u16) -> [u8; 576] {
+    fn block_of(pages: u8, frame: u16) -> [u8; 576]
+        ensures { length result ≡ 576 }
+    {
         let mut bytes = [0; 576];
-        bytes[0] = 0x01;
-        bytes[1] = 0x75;
-        let [low, high] = length.to_le_bytes();
-        bytes[2] = low;
-        bytes[3] = high;
+        bytes[..2].copy_from_slice(&[0x01, 0x75]);
+        bytes[2..4].copy_from_slice(&frame.to_le_bytes());
         bytes[25] = pages;
         bytes
     }
