@@ -1,6 +1,6 @@
 -- The slips at hand are those that the hub has out: every call keeps this, where a composed slip joins them and one that is handed in leaves.
 use Rattle.std.proofs.Common.{◌≡◌, ℕ, suc, ◌<◌, Bool, true, false, cond, not, eqb, List, [], ◌∷◌, ◌++◌, length, get_or, take, drop, ℤ, is_some, is_ok, Some, None, Ok, Err, Option, Result, sym, refl, ap, ◌∙◌, append-nil, drop-cons}
-use Rattle.std.specs.Option.{option_map, option_to_list}
+use Rattle.std.specs.Option.{option_map, option_or, option_to_list}
 use Rattle.std.proofs.lemmas.List.{take-append-drop}
 use Rattle.std.proofs.lemmas.Bool.{eq-eqb, true≢false}
 use Rattle.std.proofs.lemmas.Option.{none-some}
@@ -28,7 +28,7 @@ use Rattle.model.specs.Taking.{answered, event_unless, first_unlisted, heard, he
 use Rattle.law.proofs.Elements.{cons≢nil, err≢ok}
 use Rattle.law.proofs.Granted.{compose_is}
 use Rattle.law.proofs.Hearing.{hear_keeps}
-use Rattle.law.proofs.Switches.{KeepsId, find_append, find_map, found_after, one_step, or_else}
+use Rattle.law.proofs.Switches.{KeepsId, find_append, find_map, found_after, one_step}
 use Rattle.law.proofs.Taken.{hear_all}
 use Rattle.hub.specs.Compositions.{composition}
 use Rattle.hub.specs.Memory.{handed_back}
@@ -65,7 +65,7 @@ pub holds_enrol : (h : HubModel) (id : ℕ) (list : List ℕ) (slips : List Slip
 holds_enrol h id list slips all = go (enrol_fault h id list)
   where
     -- a new switch has no slip out
-    same : (b : Bool) (o : Option SwitchModel) → slip_in (or_else o (cond b (Some (new_switch id list)) None)) ≡ slip_in o
+    same : (b : Bool) (o : Option SwitchModel) → slip_in (option_or o (cond b (Some (new_switch id list)) None)) ≡ slip_in o
     same b (Some m) = refl
     same true None = refl
     same false None = refl
