@@ -1,5 +1,5 @@
 -- What a payload's checks, once passed, say of taking it.
-use Rattle.std.proofs.Common.{◌≡◌, ℕ, Bool, true, false, cond, eqb, List, Some, None, Ok, Err, Result, sym, refl, ap, ◌∙◌, arith}
+use Rattle.std.proofs.Common.{◌≡◌, ℕ, Bool, true, false, cond, List, Some, None, Ok, Err, Result, sym, refl, ap, ◌∙◌, arith}
 use Rattle.std.proofs.lemmas.Bool.{cond-false, cond-true, eq-eqb, ne_eqb, not_from_false, not_from_true}
 use Rattle.fault.specs.declared.Fault.{Fault}
 use Rattle.fault.specs.declared.Fault.TheVariants.{Frame}
@@ -12,7 +12,7 @@ use Rattle.packet.proofs.Spelling.{same_answer}
 use Rattle.packet.specs.Words.{descriptor_of}
 use Rattle.model.specs.declared.told.Arrival.{Arrival}
 use Rattle.model.specs.declared.told.Arrival.TheVariants.{Answer, Stale}
-use Rattle.model.specs.Models.{HubModel, Step, SwitchModel, change_switch, find_switch}
+use Rattle.model.specs.Models.{HubModel, Step, SwitchModel, change_switch, find_switch, is_number}
 use Rattle.model.specs.Taking.{answered, event_unless, take_from, take_messages, take_ours, take_payload}
 use Rattle.hub.specs.declared.taking.Survey.{Survey}
 use Rattle.hub.specs.Surveys.{heard_all, survey_of}
@@ -55,7 +55,7 @@ module _ (h : HubModel) (s : List ℕ) (d : Descriptor) (m : SwitchModel) (v : S
       go (Err f) e = let z : ◌≡◌ {A = ℕ} 0 1 = cc in absurd (omega arith)
 
   pub answer_taken : (d.number ≡ 0 → ⊥)
-      → take_payload h s ≡ Ok ((cond (eqb d.number m.numbers.awaited) Answer Stale, v.understood), cond (eqb d.number m.numbers.awaited) (change_switch d.switch answered h) h)
+      → take_payload h s ≡ Ok ((cond (is_number m.numbers.awaited d.number) Answer Stale, v.understood), cond (is_number m.numbers.awaited d.number) (change_switch d.switch answered h) h)
   answer_taken some = passed ∙ go (messages_from s 16) checked
     where
       ways : (b : Bool) (n : ℕ) → cond {A = Step (Arrival × ℕ)} b (Ok ((Answer, n), change_switch d.switch answered h)) (Ok ((Stale, n), h)) ≡ Ok ((cond b Answer Stale, n), cond b (change_switch d.switch answered h) h)
@@ -63,9 +63,9 @@ module _ (h : HubModel) (s : List ℕ) (d : Descriptor) (m : SwitchModel) (v : S
       ways false n = refl
 
       go : (r : Result (List (ℕ × Message)) Fault) → Ok v ≡ survey_of m.items r
-          → take_messages h m d r ≡ Ok ((cond (eqb d.number m.numbers.awaited) Answer Stale, v.understood), cond (eqb d.number m.numbers.awaited) (change_switch d.switch answered h) h)
+          → take_messages h m d r ≡ Ok ((cond (is_number m.numbers.awaited d.number) Answer Stale, v.understood), cond (is_number m.numbers.awaited d.number) (change_switch d.switch answered h) h)
       go (Ok ms) e =
           let same : v.understood ≡ understood ms = ap (λ (w : Survey). w.understood) (same_answer _ _ e) in
-          cond-false _ _ _ (ne_eqb _ _ some) ∙ ways (eqb d.number m.numbers.awaited) (understood ms)
-          ∙ ap (λ (n : ℕ). Ok ((cond (eqb d.number m.numbers.awaited) Answer Stale, n), cond (eqb d.number m.numbers.awaited) (change_switch d.switch answered h) h)) (sym same)
+          cond-false _ _ _ (ne_eqb _ _ some) ∙ ways (is_number m.numbers.awaited d.number) (understood ms)
+          ∙ ap (λ (n : ℕ). Ok ((cond (is_number m.numbers.awaited d.number) Answer Stale, n), cond (is_number m.numbers.awaited d.number) (change_switch d.switch answered h) h)) (sym same)
       go (Err f) e = let z : ◌≡◌ {A = ℕ} 0 1 = cc in absurd (omega arith)

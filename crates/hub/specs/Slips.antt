@@ -1,8 +1,7 @@
 -- Slips handed in: refused, one comes back and is still owed.
 use Rattle.std.specs.Prelude.{Bool, false, Some, None, Ok, Err, Option, Result}
 use Rattle.fault.specs.declared.Fault.{Fault}
-use Rattle.model.specs.Composing.{is_open_slip}
-use Rattle.model.specs.Models.{HubModel, Step, SwitchModel, find_switch}
+use Rattle.model.specs.Models.{HubModel, Step, SwitchModel, find_switch, is_number}
 use Rattle.hub.specs.declared.slip.Slip.{Slip}
 
 abbrev pub slip_answer : Slip → Step Unit → Result Unit (Fault × Slip)
@@ -11,7 +10,7 @@ slip_answer slip (Err e) = Err (e, slip)
 
 abbrev pub owed_by : Slip → Option SwitchModel → Bool
 owed_by slip None = false
-owed_by slip (Some m) = is_open_slip m.numbers.slip slip.number
+owed_by slip (Some m) = is_number m.numbers.slip slip.number
 
 -- whether the hub has this slip open
 abbrev pub owed : HubModel → Slip → Bool

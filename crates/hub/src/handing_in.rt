@@ -1,7 +1,7 @@
 // Handing a slip in: the packet was sent, or it was withheld.
 ghost use Rattle.std.specs.Prelude.{◌≡◌};
-ghost use Rattle.model.specs.Composing.{is_open_slip, sent as sent_step, withheld as withheld_step};
-ghost use Rattle.model.specs.Models.{hub_after};
+ghost use Rattle.model.specs.Composing.{sent as sent_step, withheld as withheld_step};
+ghost use Rattle.model.specs.Models.{hub_after, is_number};
 ghost use Rattle.hub.specs.Memory.{hub_model};
 ghost use Rattle.hub.specs.Slips.{owed, slip_answer};
 
@@ -13,7 +13,7 @@ use switch::SwitchStep;
 
 // Whether the open slip, if there is one, has this number.
 fn is_open(slip: Option<u16>, number: u16) -> bool
-    ensures { result ≡ is_open_slip slip number }
+    ensures { result ≡ is_number slip number }
 {
     match slip {
         Some(open) => open == number,

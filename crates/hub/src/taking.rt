@@ -159,6 +159,10 @@ impl<S: ActorStore> Hub<S> {
         if words.number == 0 {
             return self.take_event(words.switch, payload, survey);
         }
-        Ok(self.take_answer(words.switch, words.number == awaited, survey.understood))
+        Ok(self.take_answer(
+            words.switch,
+            awaited == Some(words.number),
+            survey.understood,
+        ))
     }
 }

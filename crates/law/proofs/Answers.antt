@@ -1,21 +1,20 @@
 -- A payload that take accepts: what holds of its switch is kept, and the awaited answer settles what is under way.
-use Rattle.std.proofs.Common.{◌≡◌, ℕ, suc, Bool, true, false, cond, eqb, List, [], ◌∷◌, ℤ, is_some, Some, None, Option, sym, refl, ap, ◌∙◌, subst, inl, inr, ⊎_elim, arith}
+use Rattle.std.proofs.Common.{◌≡◌, ℕ, suc, Bool, true, false, cond, List, [], ◌∷◌, ℤ, is_some, Some, None, Option, sym, refl, ap, ◌∙◌, subst, inl, inr, ⊎_elim, arith}
 use Rattle.std.specs.List.{AllByRecursion}
-use Rattle.std.proofs.lemmas.Bool.{eqb-true}
 use Rattle.store.specs.Meaning.{Known}
 use Rattle.model.specs.declared.item.Item.{Item}
 use Rattle.model.specs.declared.mark.Change.TheVariants.{Answered}
 use Rattle.model.specs.declared.mark.Mark.{Mark}
 use Rattle.model.specs.declared.mark.Mark.TheVariants.{Settled, Due, UnderWay}
 use Rattle.model.specs.Marks.{moved}
-use Rattle.model.specs.Models.{SwitchModel, lists_actor}
+use Rattle.model.specs.Models.{SwitchModel, is_number, lists_actor}
 use Rattle.model.specs.Taking.{answered}
 use Rattle.law.specs.Values.{Any, Inits, spoken}
 use Rattle.law.specs.World as world
 use Rattle.law.specs.World.{About, Act, End, InTime, Packet, Payload, accepts, messages_in}
 use Rattle.law.specs.Law.{Tells}
 use Rattle.law.proofs.Changes.{still_short}
-use Rattle.law.proofs.Elements.{any_map}
+use Rattle.law.proofs.Elements.{any_map, some_number, that_number}
 use Rattle.law.proofs.Flights.{between_le, delivered_below, nothing_ahead, same_packet}
 use Rattle.law.proofs.Hearing.{DueAt, Hits}
 use Rattle.law.proofs.Invariant.{AboutFine, Between, Delivered, Enrolled, Good, Here, ItemFine, Lines, MarkFine, PayloadFine, SwitchFine, flight, number_in, number_of, said_by}
@@ -114,16 +113,16 @@ switch_answered st m e c s d l f =
 
 -- the switch after an answer: settled if this was the awaited number
 abbrev pub settled_by : ℕ → SwitchModel → SwitchModel
-settled_by number m = cond (eqb number m.numbers.awaited) (answered m) m
+settled_by number m = cond (is_number m.numbers.awaited number) (answered m) m
 
 switch_settled : (st : Known) (m : SwitchModel) (e : End) (p : Payload) → Lines e → PayloadFine e.display.acts e.line_to.delivered p → (number_in (spoken p.bytes) ≡ 0 → ⊥)
     → InTime e.line_to.composed p.about → SwitchFine st m e → SwitchFine st (settled_by (number_in (spoken p.bytes)) m) e
-switch_settled st m e p l k n i f = go (eqb (number_in (spoken p.bytes)) m.numbers.awaited) refl
+switch_settled st m e p l k n i f = go (is_number m.numbers.awaited (number_in (spoken p.bytes))) refl
   where
-    go : (b : Bool) → eqb (number_in (spoken p.bytes)) m.numbers.awaited ≡ b → SwitchFine st (cond b (answered m) m) e
+    go : (b : Bool) → is_number m.numbers.awaited (number_in (spoken p.bytes)) ≡ b → SwitchFine st (cond b (answered m) m) e
     go true q =
-        let r = eqb-true (number_in (spoken p.bytes)) m.numbers.awaited q in
-        ⊎_elim (λ z. absurd (n (r ∙ z))) (λ x. switch_answered st m e x.0 x.1 (answers_latest e p x.0 l k n i x.1 (r ∙ x.2)) l f) f.numbers.awaits
+        ⊎_elim (λ z. absurd (some_number m.numbers.awaited _ q z))
+        (λ x. switch_answered st m e x.0 x.1 (answers_latest e p x.0 l k n i x.1 (that_number m.numbers.awaited _ _ q x.2)) l f) f.numbers.awaits
     go false q = f
 
 pub here_answered : (st : Known) (m : SwitchModel) (e : End) (p : Payload) (rest : List Payload) → e.line_from ≡ p ∷ rest → (number_in (spoken p.bytes) ≡ 0 → ⊥)

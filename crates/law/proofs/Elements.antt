@@ -1,22 +1,10 @@
--- What holds of each element of a list, or of some; what an Option or a Result holds.
-use Rattle.std.proofs.Common.{◌≡◌, List, [], ◌∷◌, ◌++◌, map, Some, None, Ok, Err, Option, Result, sym, ap, subst, inl, inr}
+-- What holds of each element of a list, or of some; what a Result holds.
+use Rattle.std.proofs.Common.{◌≡◌, ℕ, true, List, [], ◌∷◌, ◌++◌, map, Some, None, Ok, Err, Option, Result, sym, ap, ◌∙◌, subst, inl, inr}
 use Rattle.std.specs.List.{AllByRecursion}
 use Rattle.std.proofs.ByRecursion.{All-map, All-weaker}
+use Rattle.std.proofs.lemmas.Bool.{eqb-true, true≢false}
+use Rattle.model.specs.Models.{is_number}
 use Rattle.law.specs.Values.{Any}
-
-abbrev some_or : {A : Type 0} → A → Option A → A
-some_or x None = x
-some_or x (Some y) = y
-
-abbrev HasSome : {A : Type 0} → Option A → Type 0
-HasSome None = ⊥
-HasSome (Some y) = Unit {0}
-
-pub some_inj : {A : Type 0} {x y : A} → Some x ≡ Some y → x ≡ y
-some_inj {A} {x} e = ap (some_or x) e
-
-pub none≢some : {A : Type 0} {x : A} → None ≡ Some x → ⊥
-none≢some e = subst HasSome (sym e) tt
 
 abbrev IsOk : {A E : Type 0} → Result A E → Type 0
 IsOk (Ok y) = Unit {0}
@@ -56,3 +44,11 @@ cons≢nil p = subst IsCons p tt
     IsCons : {B : Type 0} → List B → Type 0
     IsCons [] = ⊥
     IsCons (x ∷ xs) = Unit {0}
+
+-- a number that is this one is there, and equals it
+
+pub some_number : (o : Option ℕ) (n : ℕ) → is_number o n ≡ true → o ≡ None → ⊥
+some_number o n e z = true≢false (sym e ∙ ap (λ p. is_number p n) z)
+
+pub that_number : (o : Option ℕ) (n k : ℕ) → is_number o n ≡ true → o ≡ Some k → n ≡ k
+that_number o n k e z = sym (eqb-true k n (sym (ap (λ p. is_number p n) z) ∙ e))

@@ -4,6 +4,7 @@ use Rattle.std.specs.Option.{option_map}
 use Rattle.std.specs.List.{AllByRecursion}
 use Rattle.std.proofs.lemmas.List.{take_at}
 use Rattle.std.proofs.lemmas.Bool.{eq-eqb, eqb-false, ltb-false, or_parts}
+use Rattle.std.proofs.lemmas.Option.{none-some}
 use Rattle.fault.specs.declared.CallFault.TheVariants.{NoSlip, NothingOutstanding, ShortBuffer, SlipOpen}
 use Rattle.fault.specs.declared.Fault.{Fault}
 use Rattle.fault.specs.declared.Fault.TheVariants as fault
@@ -11,13 +12,13 @@ use Rattle.packet.proofs.Spelling.{past, same_answer}
 use Rattle.store.specs.declared.meaning.Half.{Half}
 use Rattle.store.specs.Meaning.{Known, put_answer}
 use Rattle.store.specs.Lists.{lists}
-use Rattle.model.specs.Composing.{Composition, brought_back, closed_slip, compose, compose_for, composed, composed_bytes, composition_for, hand_in, has_outstanding, is_open_slip, packet_for, packet_over, sent, withheld}
-use Rattle.model.specs.Models.{HubModel, Step, SwitchModel, change_switch, find_switch, hub_after, with_control, with_switches}
+use Rattle.model.specs.Composing.{Composition, brought_back, closed_slip, compose, compose_for, composed, composed_bytes, composition_for, hand_in, has_outstanding, packet_for, packet_over, sent, withheld}
+use Rattle.model.specs.Models.{HubModel, Step, SwitchModel, change_switch, find_switch, hub_after, is_number, with_control, with_switches}
 use Rattle.model.specs.Opening.{enrol, enrol_fault, entry_fault, new_switch, unless}
 use Rattle.model.specs.Settings.{at_enrolled, granted, set_control, set_value, with_value}
 use Rattle.law.specs.World as world
 use Rattle.law.specs.World.{Call, Refused, leaves}
-use Rattle.law.proofs.Elements.{err≢ok, none≢some}
+use Rattle.law.proofs.Elements.{err≢ok}
 use Rattle.law.proofs.Switches.{find_at_same}
 
 found : {A : Type 0} (o : Option SwitchModel) (f : SwitchModel → Result A Fault) {x : A} → at_enrolled o f ≡ Ok x → (m : SwitchModel) × (o ≡ Some m) × (f m ≡ Ok x)
@@ -29,12 +30,12 @@ abbrev pub Entry : Known → ℕ → Type 0
 Entry st a = (a ≡ 0 → ⊥) × (is_some (st a) ≡ true)
 
 no_fault : (b : Bool) (f : Fault) (o : Option Fault) → cond b (Some f) o ≡ None → (b ≡ false) × (o ≡ None)
-no_fault true f o e = absurd (none≢some (sym e))
+no_fault true f o e = absurd (none-some _ (sym e))
 no_fault false f o e = (refl, e)
 
 is_known : (b : Bool) (f : Fault) (o : Option Fault) → cond b o (Some f) ≡ None → (b ≡ true) × (o ≡ None)
 is_known true f o e = (refl, e)
-is_known false f o e = absurd (none≢some (sym e))
+is_known false f o e = absurd (none-some _ (sym e))
 
 entries : (st : Known) (before : List ℕ) (i : ℕ) (list : List ℕ) → entry_fault st before i list ≡ None → AllByRecursion (Entry st) list
 entries st before i [] e = tt
@@ -100,26 +101,26 @@ slip_is_owed h s buf c g e =
     let i = compose_is h s buf c g e in
     let m = i.switch in
     let at = ap (λ (k : HubModel). find_switch s k.switches) i.after ∙ find_at_same s composed (λ x. refl) h.switches ∙ ap (option_map composed) i.enrolled in
-    let owed = ap (λ (n : ℕ). is_open_slip (composed m).numbers.slip n) i.number ∙ eq-eqb m.numbers.next m.numbers.next refl in
+    let owed = ap (λ (n : ℕ). is_number (composed m).numbers.slip n) i.number ∙ eq-eqb m.numbers.next m.numbers.next refl in
     ap (λ (o : Option SwitchModel). is_ok (hand_in closed_slip g s c.number o)) at
     ∙ ap (λ (b : Bool). is_ok (cond {A = Step Unit} b (Ok (tt, change_switch s closed_slip g)) (Err (fault.Call NoSlip 0)))) owed
 
 hand_in_lem : (f : SwitchModel → SwitchModel) (h : HubModel) (s number : ℕ) (o : Option SwitchModel) (g : HubModel) → hand_in f h s number o ≡ Ok (tt, g)
-    → (m : SwitchModel) × (o ≡ Some m) × (g ≡ change_switch s f h) × (is_open_slip m.numbers.slip number ≡ true)
+    → (m : SwitchModel) × (o ≡ Some m) × (g ≡ change_switch s f h) × (is_number m.numbers.slip number ≡ true)
 hand_in_lem f h s number None g e = absurd (err≢ok e)
-hand_in_lem f h s number (Some m) g e = go (is_open_slip m.numbers.slip number) refl e
+hand_in_lem f h s number (Some m) g e = go (is_number m.numbers.slip number) refl e
   where
-    go : (b : Bool) → is_open_slip m.numbers.slip number ≡ b → ◌≡◌ {A = Step Unit} (cond b (Ok (tt, change_switch s f h)) (Err (fault.Call NoSlip 0))) (Ok (tt, g))
-        → (n : SwitchModel) × (Some m ≡ Some n) × (g ≡ change_switch s f h) × (is_open_slip n.numbers.slip number ≡ true)
+    go : (b : Bool) → is_number m.numbers.slip number ≡ b → ◌≡◌ {A = Step Unit} (cond b (Ok (tt, change_switch s f h)) (Err (fault.Call NoSlip 0))) (Ok (tt, g))
+        → (n : SwitchModel) × (Some m ≡ Some n) × (g ≡ change_switch s f h) × (is_number n.numbers.slip number ≡ true)
     go true q r = (m, refl, ap (λ (y : Unit {0} × HubModel). y.1) (sym (same_answer _ _ r)), q)
     go false q r = absurd (err≢ok r)
 
 pub sent_is : (h : HubModel) (s number : ℕ) (g : HubModel) → sent h s number ≡ Ok (tt, g)
-    → (m : SwitchModel) × (find_switch s h.switches ≡ Some m) × (g ≡ change_switch s closed_slip h) × (is_open_slip m.numbers.slip number ≡ true)
+    → (m : SwitchModel) × (find_switch s h.switches ≡ Some m) × (g ≡ change_switch s closed_slip h) × (is_number m.numbers.slip number ≡ true)
 sent_is h s number g e = hand_in_lem closed_slip h s number (find_switch s h.switches) g e
 
 pub withheld_is : (h : HubModel) (s number : ℕ) (g : HubModel) → withheld h s number ≡ Ok (tt, g)
-    → (m : SwitchModel) × (find_switch s h.switches ≡ Some m) × (g ≡ change_switch s brought_back h) × (is_open_slip m.numbers.slip number ≡ true)
+    → (m : SwitchModel) × (find_switch s h.switches ≡ Some m) × (g ≡ change_switch s brought_back h) × (is_number m.numbers.slip number ≡ true)
 withheld_is h s number g e = hand_in_lem brought_back h s number (find_switch s h.switches) g e
 
 -- a refused call leaves the hub as it was

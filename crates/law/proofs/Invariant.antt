@@ -97,7 +97,7 @@ pub record ItemFine (st : Known) (marks : ℕ → Mark) (e : End) (x : Item) : T
 
 pub record NumbersFine (n : Numbers) (l : LineTo) : Type 0 where
   pub next : n.next ≡ number_of l.composed
-  pub awaits : (n.awaited ≡ 0) ⊎ ((c : ℕ) × (l.composed ≡ suc c) × (n.awaited ≡ number_of c))
+  pub awaits : (n.awaited ≡ None) ⊎ ((c : ℕ) × (l.composed ≡ suc c) × (n.awaited ≡ Some (number_of c)))
   pub slip : (n.slip ≡ None) ⊎ ((p : Packet) × (l.waiting ≡ p ∷ []) × (l.composed ≡ suc p.index))
 
 pub record SwitchFine (st : Known) (m : SwitchModel) (e : End) : Type 0 where

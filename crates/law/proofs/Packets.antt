@@ -76,7 +76,7 @@ module _ (st : Known) (m : SwitchModel) (e : End) (p : Packet) (fresh : Fresh st
         short = still_short m.items _ f.short;
         numbers = record {
           next = ap number_after f.numbers.next ∙ next_number e.line_to.composed;
-          awaits = inr (e.line_to.composed, refl, f.numbers.next);
+          awaits = inr (e.line_to.composed, refl, ap Some f.numbers.next);
           slip = inr (p, refl, ap suc (sym fresh.index));
         };
         marks = λ a. moved (f.marks a) Composed;

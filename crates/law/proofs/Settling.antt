@@ -1,8 +1,8 @@
 -- From a compose on, with no change, until its answer is taken: no item of the switch is due.
 use Rattle.std.proofs.Common.{◌≡◌, ℕ, suc, Bool, true, false, cond, eqb, ◌⊎◌, List, [], ◌∷◌, ◌++◌, map, take, ℤ, Some, None, Ok, Option, sym, refl, ap, ◌∙◌, subst, inl, inr, ⊎_elim, append-nil, arith}
-use Rattle.std.specs.Option.{option_map}
+use Rattle.std.specs.Option.{option_map, option_or}
 use Rattle.std.specs.List.{AllByRecursion}
-use Rattle.std.proofs.lemmas.Bool.{eq-eqb, eqb-false, eqb-true, ne_eqb, or_from, true≢false}
+use Rattle.std.proofs.lemmas.Bool.{eq-eqb, eqb-false, eqb-true, ne_eqb, or_from}
 use Rattle.packet.specs.declared.records.Message.{Message}
 use Rattle.packet.specs.declared.words.Descriptor.{Descriptor}
 use Rattle.packet.specs.Words.{major}
@@ -13,9 +13,9 @@ use Rattle.model.specs.declared.mark.Change.TheVariants.{Answered, Composed}
 use Rattle.model.specs.declared.mark.Mark.TheVariants.{Settled, Due}
 use Rattle.model.specs.declared.told.Arrival.{Arrival}
 use Rattle.model.specs.declared.told.Site.{Site}
-use Rattle.model.specs.Composing.{brought_back, closed_slip, composed, composed_bytes, has_outstanding, is_open_slip}
+use Rattle.model.specs.Composing.{brought_back, closed_slip, composed, composed_bytes, has_outstanding}
 use Rattle.model.specs.Marks.{is_outstanding}
-use Rattle.model.specs.Models.{HubModel, SwitchModel, any_outstanding, at_switch, change_switch, find_switch, moved_item, touched, with_control}
+use Rattle.model.specs.Models.{HubModel, SwitchModel, any_outstanding, at_switch, change_switch, find_switch, is_number, moved_item, touched, with_control}
 use Rattle.model.specs.Opening.{new_switch}
 use Rattle.model.specs.Settings.{at_enrolled, set_value}
 use Rattle.model.specs.Taking.{answered, take_payload}
@@ -25,15 +25,15 @@ use Rattle.law.specs.World.{About, End, Move, Packet, Payload, World, accepts, d
 use Rattle.law.specs.Law as law
 use Rattle.law.specs.Law.{Lists, Quiet, Quietly, Settling, SiteFits}
 use Rattle.law.proofs.Answers.{head_fine, settled_by}
-use Rattle.law.proofs.Elements.{all_then, all_mapped, none≢some}
+use Rattle.law.proofs.Elements.{all_then, all_mapped, some_number}
 use Rattle.law.proofs.Flights.{between_below, between_last, between_le, delivered_below, number≢0}
 use Rattle.law.proofs.Granted.{compose_is, control_is, enrol_is, refused_leaves, sent_is, set_is, withheld_is}
 use Rattle.law.proofs.Held.{Lawful}
 use Rattle.law.proofs.Invariant.{AboutFine, Between, Delivered, Enrolled, Here, Holds, SwitchFine, flight, number_in, number_of}
 use Rattle.law.proofs.Marks.{not_due_composed, settled_answered, settled≢due}
 use Rattle.law.proofs.Moves.{keep, keep_run}
-use Rattle.law.proofs.Quiet.{Kept, hear_quiet, kept_untouched}
-use Rattle.law.proofs.Switches.{KeepsId, find_append, find_at_other, find_at_same, find_map, or_else}
+use Rattle.law.proofs.Quiet.{Kept, hear_quiet, kept_same, kept_untouched}
+use Rattle.law.proofs.Switches.{KeepsId, find_append, find_at_other, find_at_same, find_map}
 use Rattle.law.proofs.Taken.{answer_is, answered_if, event_is, hear_all}
 use Rattle.law.proofs.Truth.{holds_at_opening}
 
@@ -68,7 +68,7 @@ composed_none_due m = (go m.items, not_due_composed m.mark)
 module _ (k : ℕ) where
   -- none due, and its answer awaited
   abbrev Pending : SwitchModel → Type 0
-  Pending m = (m.numbers.awaited ≡ number_of k) × NoneDue m
+  Pending m = (m.numbers.awaited ≡ Some (number_of k)) × NoneDue m
 
   -- it was withheld, and never comes
   abbrev Gone : End → Type 0
@@ -88,6 +88,10 @@ module _ (k : ℕ) where
       f (inl g) = inl g
       f (inr (inl c)) = inr (inl (subst (AllByRecursion (λ x. x.mark ≡ Settled)) (sym p.items) c.0, p.mark ∙ c.1))
       f (inr (inr q)) = inr (inr (p.awaited ∙ q.0, none_due q.1))
+
+  -- a switch found then, for the one found before
+  waits_found : (o o' : Option SwitchModel) (e : End) (m n : SwitchModel) → o ≡ Some m → o' ≡ Some n → Kept m n → Waits o e → Waits o' e
+  waits_found o o' e m n q r p y = subst (λ x. Waits x e) (sym r) (waits_kept m n e p (subst (λ x. Waits x e) q y))
 
   -- the switch that waits
   waiting_switch : (o : Option SwitchModel) (e : End) → Waits o e → (m : SwitchModel) × (o ≡ Some m)
@@ -132,6 +136,11 @@ module _ (k : ℕ) where
           (g (subst (λ o. Waits o (w.ends t)) q (subst (λ (y : ℕ). WaitsAt w y) (sym r) x))))
       h false z = subst (λ o. Waits o (w.ends s)) (sym (find_at_other t s f i (eqb-false t s z) w.hub.switches)) x
 
+  -- a step of switch t's end alone, which packets gone survive
+  end_alone : (w : World) (s t : ℕ) (e : End) → (w.ends t).line_to.composed ≡ e.line_to.composed → (Gone (w.ends t) → Gone e) → WaitsAt w s
+      → Waits (find_switch s w.hub.switches) (cond (eqb t s) e (w.ends s))
+  end_alone w s t e c g = focus_end w s t (find_switch s w.hub.switches) e (waits_end (find_switch s w.hub.switches) (w.ends t) e c g)
+
   gone_delivered : (e : End) (p : Packet) (rest : List Packet) → e.line_to.line ≡ p ∷ rest → Gone e → Gone (delivers p rest e)
   gone_delivered e p rest q g =
       let a = subst (λ y. AllByRecursion (λ r. r.index ≡ k → ⊥) (y ++ e.line_to.waiting)) q g.0 in
@@ -147,13 +156,9 @@ module _ (k : ℕ) where
   waits_sent m e x = waits_end (Some (closed_slip m)) e (with_line_to (joined e.line_to) e) refl (gone_sent e) (waits_kept m (closed_slip m) e (record { items = refl; mark = refl; awaited = refl }) x)
 
   -- a withheld packet never comes
-  slip_is_out : (o : Option ℕ) (n : ℕ) → is_open_slip o n ≡ true → o ≡ None → ⊥
-  slip_is_out None n e z = true≢false (sym e)
-  slip_is_out (Some j) n e z = none≢some (sym z)
-
-  waits_withheld : (st : store.Known) (m : SwitchModel) (n : ℕ) (e : End) → is_open_slip m.numbers.slip n ≡ true → Here st (Some m) e → Waits (Some m) e
+  waits_withheld : (st : store.Known) (m : SwitchModel) (n : ℕ) (e : End) → is_number m.numbers.slip n ≡ true → Here st (Some m) e → Waits (Some m) e
       → Waits (Some (brought_back m)) (with_line_to (discarded e.line_to) e)
-  waits_withheld st m n e open_slip h x = (x.0, inl (⊎_elim (λ z. absurd (slip_is_out m.numbers.slip n open_slip z)) gone h.1.numbers.slip))
+  waits_withheld st m n e open_slip h x = (x.0, inl (⊎_elim (λ z. absurd (some_number m.numbers.slip n open_slip z)) gone h.1.numbers.slip))
     where
       gone : (p : Packet) × (e.line_to.waiting ≡ p ∷ []) × (e.line_to.composed ≡ suc p.index) → Gone (with_line_to (discarded e.line_to) e)
       gone r =
@@ -170,8 +175,8 @@ module _ (k : ℕ) where
   waits_set s w a half v g p q y =
       let r = waiting_switch (find_switch s w.hub.switches) (w.ends s) y in
       subst (λ h. Waits (find_switch s h.switches) (w.ends s)) (sym (set_is w.hub a half v g p).1)
-      (subst (λ o. Waits o (w.ends s)) (sym (find_map (touched a) (λ m. refl) s w.hub.switches ∙ ap (option_map (touched a)) r.1))
-      (waits_kept r.0 (touched a r.0) (w.ends s) (kept_untouched r.0 a (λ l. q (r.0, r.1, l))) (subst (λ o. Waits o (w.ends s)) r.1 y)))
+      (waits_found _ _ (w.ends s) r.0 (touched a r.0) r.1 (find_map (touched a) (λ m. refl) s w.hub.switches ∙ ap (option_map (touched a)) r.1)
+      (kept_untouched r.0 a (λ l. q (r.0, r.1, l))) y)
 
   waits_event : (s : ℕ) (w : World) (t : ℕ) (p : Payload) (rest : List Payload) (d : Descriptor) (ms : List Message) (told : Arrival) (count : ℕ) (g : HubModel)
       → spoken p.bytes ≡ Some (d, ms) → d.switch ≡ t → d.number ≡ 0 → take_payload w.hub p.bytes ≡ Ok ((told, count), g)
@@ -183,7 +188,7 @@ module _ (k : ℕ) where
       let n = hear_quiet s t ms w.hub m.0 m.1 (λ a l. q.0 a (m.0, m.1, l)) q.1 in
       subst (λ h. Waits (find_switch s h.switches) (cond (eqb t s) (accepts p rest (w.ends t)) (w.ends s))) (sym (r.after ∙ ap (λ (x : ℕ). hear_all x ms w.hub) from))
       (focus_end w s t _ _ (waits_end _ (w.ends t) _ refl (λ z. z))
-      (subst (λ o. Waits o (w.ends s)) (sym n.1) (waits_kept m.0 n.0 (w.ends s) n.2 (subst (λ o. Waits o (w.ends s)) m.1 y))))
+      (waits_found _ _ (w.ends s) m.0 n.0 m.1 n.1 n.2 y))
 
   waits_answer : (s : ℕ) (w : World) (t : ℕ) (p : Payload) (rest : List Payload) (d : Descriptor) (ms : List Message) (x : Arrival × ℕ) (g : HubModel)
       → spoken p.bytes ≡ Some (d, ms) → d.switch ≡ t → (d.number ≡ 0 → ⊥) → take_payload w.hub p.bytes ≡ Ok (x, g)
@@ -191,12 +196,12 @@ module _ (k : ℕ) where
   waits_answer s w t p rest d ms x g said from n taken y =
       let a = answer_is w.hub p.bytes d ms x g said n taken in
       subst (λ h. Waits (find_switch s h.switches) (cond (eqb t s) (accepts p rest (w.ends t)) (w.ends s))) (sym (a.2 ∙ ap (answered_if d.number a.0 w.hub) from))
-      (go a.0 (ap (λ (i : ℕ). find_switch i w.hub.switches) (sym from) ∙ a.1) (eqb d.number a.0.numbers.awaited))
+      (go a.0 (ap (λ (i : ℕ). find_switch i w.hub.switches) (sym from) ∙ a.1) (is_number a.0.numbers.awaited d.number))
     where
       go : (m : SwitchModel) → find_switch t w.hub.switches ≡ Some m → (b : Bool)
           → Waits (find_switch s (cond b (change_switch t answered w.hub) w.hub).switches) (cond (eqb t s) (accepts p rest (w.ends t)) (w.ends s))
       go m q true = focus_step w s t answered (λ i. refl) (accepts p rest (w.ends t)) m q (waits_answered m (w.ends t) (accepts p rest (w.ends t)) refl (λ z. z)) y
-      go m q false = focus_end w s t (find_switch s w.hub.switches) _ (waits_end (find_switch s w.hub.switches) (w.ends t) _ refl (λ z. z)) y
+      go m q false = end_alone w s t _ refl (λ z. z) y
 
   -- every quiet move
   waits_move : (site : Site) (s : ℕ) {w u : World} (x : Move w u) → Holds site w → Quiet s x → WaitsAt w s → WaitsAt u s
@@ -204,8 +209,8 @@ module _ (k : ℕ) where
       let r = enrol_is w.hub id list g p in
       let m = waiting_switch (find_switch s w.hub.switches) (w.ends s) y in
       subst (λ h. Waits (find_switch s h.switches) (w.ends s)) (sym r.0)
-      (subst (λ o. Waits o (w.ends s)) (sym (find_append s w.hub.switches (new_switch id list) ∙ ap (λ o. or_else o (cond (eqb id s) (Some (new_switch id list)) None)) m.1))
-      (subst (λ o. Waits o (w.ends s)) m.1 y))
+      (waits_found _ _ (w.ends s) m.0 m.0 m.1
+      (find_append s w.hub.switches (new_switch id list) ∙ ap (λ o. option_or o (cond (eqb id s) (Some (new_switch id list)) None)) m.1) (kept_same m.0) y)
   waits_move site s {w} (world.Move.sets half a v g p) i q y = waits_set s w a half v g p q y
   waits_move site s {w} (world.Move.sets_control id word g p) i q y =
       subst (λ h. Waits (find_switch s h.switches) (w.ends s)) (sym (control_is w.hub id word g p))
@@ -228,20 +233,13 @@ module _ (k : ℕ) where
       (focus_step w s t brought_back (λ m. refl) _ r.0 r.1
       (waits_withheld w.hub.store r.0 number (w.ends t) r.3 (subst (λ o. Here w.hub.store o (w.ends t)) r.1 (i.each t))) y)
   waits_move site s {w} (world.Move.refuses c x) i q y = subst (λ (h : HubModel). Waits (find_switch s h.switches) (w.ends s)) (sym (refused_leaves w.hub c x)) y
-  waits_move site s {w} (world.Move.arrives t p rest x) i q y =
-      focus_end w s t (find_switch s w.hub.switches) _ (waits_end (find_switch s w.hub.switches) (w.ends t) _ refl (gone_delivered (w.ends t) p rest x)) y
-  waits_move site s {w} (world.Move.loses_packet t p rest x) i q y =
-      focus_end w s t (find_switch s w.hub.switches) _ (waits_end (find_switch s w.hub.switches) (w.ends t) _ refl (gone_lost (w.ends t) p rest x)) y
-  waits_move site s {w} (world.Move.loses_payload t p rest x) i q y =
-      focus_end w s t (find_switch s w.hub.switches) _ (waits_end (find_switch s w.hub.switches) (w.ends t) _ refl (λ z. z)) y
-  waits_move site s {w} (world.Move.answers t j bytes d ms said x) i q y =
-      focus_end w s t (find_switch s w.hub.switches) _ (waits_end (find_switch s w.hub.switches) (w.ends t) _ refl (λ z. z)) y
-  waits_move site s {w} (world.Move.turns t a v bytes d ms l said z x) i q y =
-      focus_end w s t (find_switch s w.hub.switches) _ (waits_end (find_switch s w.hub.switches) (w.ends t) _ refl (λ z. z)) y
-  waits_move site s {w} (world.Move.restarts t) i q y =
-      focus_end w s t (find_switch s w.hub.switches) _ (waits_end (find_switch s w.hub.switches) (w.ends t) _ refl (λ z. z)) y
-  waits_move site s {w} (world.Move.reports t bytes d ms said z) i q y =
-      focus_end w s t (find_switch s w.hub.switches) _ (waits_end (find_switch s w.hub.switches) (w.ends t) _ refl (λ z. z)) y
+  waits_move site s {w} (world.Move.arrives t p rest x) i q y = end_alone w s t _ refl (gone_delivered (w.ends t) p rest x) y
+  waits_move site s {w} (world.Move.loses_packet t p rest x) i q y = end_alone w s t _ refl (gone_lost (w.ends t) p rest x) y
+  waits_move site s {w} (world.Move.loses_payload t p rest x) i q y = end_alone w s t _ refl (λ z. z) y
+  waits_move site s {w} (world.Move.answers t j bytes d ms said x) i q y = end_alone w s t _ refl (λ z. z) y
+  waits_move site s {w} (world.Move.turns t a v bytes d ms l said z x) i q y = end_alone w s t _ refl (λ z. z) y
+  waits_move site s {w} (world.Move.restarts t) i q y = end_alone w s t _ refl (λ z. z) y
+  waits_move site s {w} (world.Move.reports t bytes d ms said z) i q y = end_alone w s t _ refl (λ z. z) y
 
   -- its answer taken: every item is settled
   clear_at_last : (m : SwitchModel) (e : End) → Delivered k e.line_to.delivered → Waits (Some m) e → Clear (settled_by (number_of k) m)
@@ -253,8 +251,8 @@ module _ (k : ℕ) where
 
       f : Gone e ⊎ (Clear m ⊎ Pending m) → Clear (settled_by (number_of k) m)
       f (inl g) = absurd (g.1 d)
-      f (inr (inl c)) = was_clear c (eqb (number_of k) m.numbers.awaited)
-      f (inr (inr p)) = subst (λ (b : Bool). Clear (cond b (answered m) m)) (sym (eq-eqb (number_of k) m.numbers.awaited (sym p.0))) (answered_clear m p.1)
+      f (inr (inl c)) = was_clear c (is_number m.numbers.awaited (number_of k))
+      f (inr (inr p)) = subst (λ (b : Bool). Clear (cond b (answered m) m)) (sym (ap (λ o. is_number o (number_of k)) p.0 ∙ eq-eqb (number_of k) (number_of k) refl)) (answered_clear m p.1)
 
   waits_run : (site : Site) → SiteFits site → major site.version ≡ 2 → (s : ℕ) {w u : World} → Quietly s w u → Holds site w → WaitsAt w s → Holds site u × WaitsAt u s
   waits_run site fit version s law.Quietly.stay i y = (i, y)
@@ -263,7 +261,7 @@ module _ (k : ℕ) where
 
 -- the hub after an answer, at the switch that sent it
 found_answered : (h : HubModel) (s number : ℕ) (m : SwitchModel) → find_switch s h.switches ≡ Some m → find_switch s (answered_if number m h s).switches ≡ Some (settled_by number m)
-found_answered h s number m q = go (eqb number m.numbers.awaited)
+found_answered h s number m q = go (is_number m.numbers.awaited number)
   where
     go : (b : Bool) → find_switch s (cond b (change_switch s answered h) h).switches ≡ Some (cond b (answered m) m)
     go true = find_at_same s answered (λ n. refl) h.switches ∙ ap (option_map answered) q
@@ -280,7 +278,7 @@ settling site st fit version l w run s buf c g composes u quiet p rest d ms head
     let start : Waits k (find_switch s g.switches) (cond (eqb s s) e (w.ends s)) =
     (subst (λ (b : Bool). Waits k (find_switch s g.switches) (cond b e (w.ends s))) (sym (eq-eqb s s refl))
     (subst (λ o. Waits k o e) (sym (ap (λ (h : HubModel). find_switch s h.switches) r.after ∙ find_at_same s composed (λ n. refl) w.hub.switches ∙ ap (option_map composed) r.enrolled))
-    (refl, inr (inr (f.numbers.next, composed_none_due m))))) in
+    (refl, inr (inr (ap Some f.numbers.next, composed_none_due m))))) in
     let z = waits_run k site fit version s quiet (keep site fit version (world.Move.composes s buf c g composes) i) start in
     let fine = head_fine (u.ends s) p rest head (z.0.each s).0 in
     let answer : AboutFine (u.ends s).display.acts (u.ends s).line_to.delivered (spoken p.bytes) (world.About.answer_to k) =

@@ -1,6 +1,7 @@
 -- What an accepted payload was, and what its messages did, offsets left aside.
-use Rattle.std.proofs.Common.{◌≡◌, ℕ, ◌+◌, Bool, true, false, cond, ◌&&◌, eqb, List, [], ◌∷◌, map, Some, None, Ok, Err, Option, Result, sym, refl, ap, ◌∙◌, subst}
+use Rattle.std.proofs.Common.{◌≡◌, ℕ, ◌+◌, Bool, true, false, cond, ◌&&◌, List, [], ◌∷◌, map, Some, None, Ok, Err, Option, Result, sym, refl, ap, ◌∙◌, subst}
 use Rattle.std.proofs.lemmas.Bool.{eq-eqb, ne_eqb}
+use Rattle.std.proofs.lemmas.Option.{none-some, same_Some}
 use Rattle.fault.specs.declared.Fault.{Fault}
 use Rattle.packet.proofs.Spelling.{same_answer}
 use Rattle.packet.specs.declared.records.Message.{Message}
@@ -11,10 +12,10 @@ use Rattle.packet.specs.Words.{descriptor_of}
 use Rattle.model.specs.declared.item.Item.{Item}
 use Rattle.model.specs.declared.told.Arrival.{Arrival}
 use Rattle.model.specs.declared.told.Arrival.TheVariants as arrival
-use Rattle.model.specs.Models.{HubModel, Step, SwitchModel, change_switch, find_switch}
+use Rattle.model.specs.Models.{HubModel, Step, SwitchModel, change_switch, find_switch, is_number}
 use Rattle.model.specs.Taking.{answered, event_unless, first_unlisted, heard, heard_message, message_listed, take_answer, take_event, take_from, take_messages, take_ours, take_payload}
 use Rattle.law.specs.Values.{drop_offsets, spoken}
-use Rattle.law.proofs.Elements.{err≢ok, none≢some, some_inj}
+use Rattle.law.proofs.Elements.{err≢ok}
 
 -- the messages of a reading, without their offsets
 abbrev pub bare : List (ℕ × Message) → List Message
@@ -51,15 +52,15 @@ listed_bare items (m ∷ ms) e = go (message_listed items m.1) (listed_bare item
     go : (b : Bool) → (first_unlisted items ms ≡ None → all_listed items (bare ms) ≡ true) → cond b (first_unlisted items ms) (Some m.0) ≡ None
         → (b && all_listed items (bare ms)) ≡ true
     go true ih q = ih q
-    go false ih q = absurd (none≢some (sym q))
+    go false ih q = absurd (none-some _ (sym q))
 
 -- a payload that says something reads as its descriptor and its messages
 spoken_parts : (rd : Result Descriptor Fault) (rm : Result (List (ℕ × Message)) Fault) (d : Descriptor) (ms : List Message) → drop_offsets (behind rd rm) ≡ Some (d, ms)
     → (places : List (ℕ × Message)) × (rd ≡ Ok d) × (rm ≡ Ok places) × (bare places ≡ ms)
 spoken_parts (Ok c) (Ok places) d ms e =
-    let q = some_inj e in (places, ap (λ (p : Descriptor × List Message). Ok p.0) q, refl, ap (λ (p : Descriptor × List Message). p.1) q)
-spoken_parts (Ok c) (Err f) d ms e = absurd (none≢some e)
-spoken_parts (Err f) rm d ms e = absurd (none≢some e)
+    let q = same_Some _ _ e in (places, ap (λ (p : Descriptor × List Message). Ok p.0) q, refl, ap (λ (p : Descriptor × List Message). p.1) q)
+spoken_parts (Ok c) (Err f) d ms e = absurd (none-some _ e)
+spoken_parts (Err f) rm d ms e = absurd (none-some _ e)
 
 -- one of ours, from a switch that is enrolled
 from_parts : (h : HubModel) (b : Bool) (f : Fault) (o : Option SwitchModel) (d : Descriptor) (s : List ℕ) (x : (Arrival × ℕ) × HubModel) → cond b (Err f) (take_from h o d s) ≡ Ok x
@@ -105,14 +106,14 @@ event_is h s d ms told count g said zero e =
 
 -- an accepted answer: the awaited number settles, any other changes nothing
 abbrev pub answered_if : ℕ → SwitchModel → HubModel → ℕ → HubModel
-answered_if number m h id = cond (eqb number m.numbers.awaited) (change_switch id answered h) h
+answered_if number m h id = cond (is_number m.numbers.awaited number) (change_switch id answered h) h
 
 pub answer_is : (h : HubModel) (s : List ℕ) (d : Descriptor) (ms : List Message) (x : Arrival × ℕ) (g : HubModel)
     → spoken s ≡ Some (d, ms) → (d.number ≡ 0 → ⊥) → take_payload h s ≡ Ok (x, g)
     → (m : SwitchModel) × (find_switch d.switch h.switches ≡ Some m) × (g ≡ answered_if d.number m h d.switch)
 answer_is h s d ms x g said n e =
     let t = taken_parts h s d ms _ said e in
-    (t.0, t.2, go t.0 t.1 (eqb d.number t.0.numbers.awaited) (subst (λ (b : Bool). cond b (take_event h t.0 d.switch t.1) (take_answer h t.0 d.switch d.number t.1) ≡ Ok (x, g)) (ne_eqb d.number 0 n) t.4))
+    (t.0, t.2, go t.0 t.1 (is_number t.0.numbers.awaited d.number) (subst (λ (b : Bool). cond b (take_event h t.0 d.switch t.1) (take_answer h t.0 d.switch d.number t.1) ≡ Ok (x, g)) (ne_eqb d.number 0 n) t.4))
   where
     go : (m : SwitchModel) (places : List (ℕ × Message)) (b : Bool)
         → ◌≡◌ {A = Step (Arrival × ℕ)} (cond b (Ok ((arrival.Answer, understood places), change_switch d.switch answered h)) (Ok ((arrival.Stale, understood places), h))) (Ok (x, g))

@@ -1,5 +1,5 @@
 -- Composing a packet for a switch, and handing its slip back.
-use Rattle.std.specs.Prelude.{ℕ, suc, Bool, false, cond, not, ◌||◌, List, [], ◌∷◌, ◌++◌, length, drop, ℤ, pos, is_some, Some, None, Ok, Err, Option, ◌==◌, nat_lt}
+use Rattle.std.specs.Prelude.{ℕ, suc, Bool, cond, not, ◌||◌, List, [], ◌∷◌, ◌++◌, length, drop, ℤ, pos, is_some, Some, None, Ok, Err, Option, ◌==◌, nat_lt}
 use Rattle.fault.specs.declared.CallFault.TheVariants.{NoSlip, NothingOutstanding, ShortBuffer, SlipOpen}
 use Rattle.fault.specs.declared.Fault.TheVariants.{Call}
 use Rattle.packet.specs.declared.records.Record.{Record}
@@ -10,7 +10,7 @@ use Rattle.store.specs.Meaning.{Known}
 use Rattle.model.specs.declared.item.Item.{Item}
 use Rattle.model.specs.declared.mark.Change.TheVariants.{Composed, Withheld}
 use Rattle.model.specs.Marks.{is_outstanding}
-use Rattle.model.specs.Models.{HubModel, Step, SwitchModel, all_moved, any_outstanding, change_switch, find_switch, with_numbers}
+use Rattle.model.specs.Models.{HubModel, Step, SwitchModel, all_moved, any_outstanding, change_switch, find_switch, is_number, with_numbers}
 use Rattle.model.specs.Settings.{at_enrolled}
 
 -- both values of an actor; enrolment sees to it that every listed actor is known
@@ -60,7 +60,7 @@ number_after n = cond (n == 65535) 1 (suc n)
 
 -- every outstanding item is under way, and the packet's answer is awaited; its slip is open
 abbrev pub composed : SwitchModel → SwitchModel
-composed m = with_numbers (record { next = number_after m.numbers.next; awaited = m.numbers.next; slip = Some m.numbers.next }) (all_moved Composed m)
+composed m = with_numbers (record { next = number_after m.numbers.next; awaited = Some m.numbers.next; slip = Some m.numbers.next }) (all_moved Composed m)
 
 -- What compose tells: the packet's length, the actors carried, and the number on the slip.
 pub record Composition : Type 0 where
@@ -93,13 +93,9 @@ composed_bytes h id buf = packet_over h (find_switch id h.switches) buf (compose
 
 -- Slips: one is known by its switch and its package number, and a switch has at most one.
 
-abbrev pub is_open_slip : Option ℕ → ℕ → Bool
-is_open_slip None number = false
-is_open_slip (Some n) number = n == number
-
 abbrev pub hand_in : (SwitchModel → SwitchModel) → HubModel → ℕ → ℕ → Option SwitchModel → Step Unit
 hand_in f h id number None = Err (Call NoSlip 0)
-hand_in f h id number (Some m) = cond (is_open_slip m.numbers.slip number) (Ok (tt, change_switch id f h)) (Err (Call NoSlip 0))
+hand_in f h id number (Some m) = cond (is_number m.numbers.slip number) (Ok (tt, change_switch id f h)) (Err (Call NoSlip 0))
 
 -- Sent closes the slip.
 abbrev pub closed_slip : SwitchModel → SwitchModel
@@ -110,7 +106,7 @@ sent h id number = hand_in closed_slip h id number (find_switch id h.switches)
 
 -- Withheld also makes every item under way due, and nothing is awaited.
 abbrev pub brought_back : SwitchModel → SwitchModel
-brought_back m = with_numbers (record { next = m.numbers.next; awaited = 0; slip = None }) (all_moved Withheld m)
+brought_back m = with_numbers (record { next = m.numbers.next; awaited = None; slip = None }) (all_moved Withheld m)
 
 abbrev pub withheld : HubModel → ℕ → ℕ → Step Unit
 withheld h id number = hand_in brought_back h id number (find_switch id h.switches)

@@ -1,5 +1,6 @@
 -- The hub as the rules see it: its opening words, its switches in order of enrolment, and what its store means.
-use Rattle.std.specs.Prelude.{ℕ, Bool, false, cond, ◌||◌, List, [], ◌∷◌, map, Some, None, Ok, Err, Option, Result, ◌==◌}
+use Rattle.std.specs.Prelude.{ℕ, Bool, false, cond, ◌||◌, List, [], ◌∷◌, map, Some, None, Ok, Err, Option, Result, ◌==◌, nat_eq}
+use Rattle.std.specs.Option.{option_eq}
 use Rattle.fault.specs.declared.Fault.{Fault}
 use Rattle.store.specs.Meaning.{Known}
 use Rattle.model.specs.declared.item.Item.{Item}
@@ -72,6 +73,10 @@ mark_of_actor a (x ∷ xs) = cond (is_actor a x) (Some x.mark) (mark_of_actor a 
 abbrev pub any_outstanding : List Item → Bool
 any_outstanding [] = false
 any_outstanding (x ∷ xs) = is_outstanding x.mark || any_outstanding xs
+
+-- whether a number that may be absent, as that of the awaited answer or of the open slip, is this one
+abbrev pub is_number : Option ℕ → ℕ → Bool
+is_number o number = option_eq nat_eq o (Some number)
 
 -- Moving items: one actor's, all of them, or the control word.
 

@@ -6,6 +6,7 @@ use Rattle.fault.specs.declared.Fault.TheVariants.{Call, Frame, Store}
 use Rattle.fault.specs.declared.FrameFault.TheVariants.{MajorVersion}
 use Rattle.fault.specs.declared.StoreFault.TheVariants.{ListEntry, ListLength, UnknownActor}
 use Rattle.packet.specs.Words.{major}
+pub use Rattle.store.specs.Lists.{unless}
 use Rattle.store.specs.Lists.{lists}
 use Rattle.store.specs.Meaning.{Known}
 use Rattle.model.specs.declared.item.Item.{Item}
@@ -46,13 +47,9 @@ new_switch id list = record {
   items = map due_item list;
   control = 0x00000130;
   mark = Due;
-  numbers = record { next = 1; awaited = 0; slip = None };
+  numbers = record { next = 1; awaited = None; slip = None };
   report = record { flags = 0; key = None; reading = None };
 }
-
-abbrev pub unless : {A : Type 0} → Option Fault → A → Result A Fault
-unless None x = Ok x
-unless (Some f) x = Err f
 
 -- Enrolment adds a switch behind the others.
 abbrev pub enrol : HubModel → ℕ → List ℕ → Step Unit

@@ -17,7 +17,7 @@ use Rattle.model.specs.declared.item.Item.{Item}
 use Rattle.model.specs.declared.mark.Change.TheVariants.{Answered, Changed}
 use Rattle.model.specs.declared.told.Arrival.{Arrival}
 use Rattle.model.specs.declared.told.Arrival.TheVariants as arrival
-use Rattle.model.specs.Models.{HubModel, Step, SwitchModel, all_moved, change_switch, find_switch, hub_after, lists_actor, with_numbers, with_report}
+use Rattle.model.specs.Models.{HubModel, Step, SwitchModel, all_moved, change_switch, find_switch, hub_after, is_number, lists_actor, with_numbers, with_report}
 use Rattle.model.specs.Settings.{set_value}
 
 -- Events.
@@ -85,15 +85,12 @@ take_event h m id ms = event_unless (first_unlisted m.items ms) (understood ms) 
 
 -- Answers: the awaited number settles every item under way, and nothing is awaited then. Any other answer changes nothing.
 
-abbrev pub with_awaited : ℕ → SwitchModel → SwitchModel
-with_awaited number m = with_numbers (record { next = m.numbers.next; awaited = number; slip = m.numbers.slip }) m
-
 abbrev pub answered : SwitchModel → SwitchModel
-answered m = with_awaited 0 (all_moved Answered m)
+answered m = with_numbers (record { next = m.numbers.next; awaited = None; slip = m.numbers.slip }) (all_moved Answered m)
 
 abbrev pub take_answer : HubModel → SwitchModel → ℕ → ℕ → List (ℕ × Message) → Step (Arrival × ℕ)
 take_answer h m id number ms =
-    cond (number == m.numbers.awaited) (Ok ((arrival.Answer, understood ms), change_switch id answered h))
+    cond (is_number m.numbers.awaited number) (Ok ((arrival.Answer, understood ms), change_switch id answered h))
     (Ok ((arrival.Stale, understood ms), h))
 
 -- The checks in their order: the descriptor, the project, the switch, the messages; for an event then the listed actors.

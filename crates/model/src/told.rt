@@ -39,11 +39,11 @@ pub struct Report {
     pub reading: Option<i16>,
 }
 
-// The numbers of a switch's packets: the next one's, that of the answer awaited (0 for none), and that of the open slip.
+// The numbers of a switch's packets: the next one's, that of the answer awaited, and that of the open slip.
 #[derive(Clone, Copy, PartialEq, Eq, Debug)]
 pub struct Numbers {
     pub next: u16,
-    pub awaited: u16,
+    pub awaited: Option<u16>,
     pub slip: Option<u16>,
 }
 

@@ -41,7 +41,7 @@ fn enrolled(id: u16, actors: &[u16]) -> Switch
         mark: Mark::Due,
         numbers: Numbers {
             next: 1,
-            awaited: 0,
+            awaited: None,
             slip: None,
         },
         report: Report {

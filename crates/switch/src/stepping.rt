@@ -71,7 +71,7 @@ impl Switch {
         ensures { self.new ≡ answered self.old }
     {
         self.move_all(Change::Answered);
-        self.numbers.awaited = 0;
+        self.numbers.awaited = None;
     }
 
     // A packet was composed: what was due is under way, its answer is awaited, and its slip is open.
@@ -82,7 +82,7 @@ impl Switch {
         let number = self.numbers.next;
         self.numbers = Numbers {
             next: number_after(number),
-            awaited: number,
+            awaited: Some(number),
             slip: Some(number),
         };
     }
@@ -100,7 +100,7 @@ impl Switch {
     {
         self.move_all(Change::Withheld);
         self.numbers = Numbers {
-            awaited: 0,
+            awaited: None,
             slip: None,
             ..self.numbers
         };

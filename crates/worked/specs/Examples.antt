@@ -1,5 +1,5 @@
 -- Examples worked out by hand, as one fact about the definitions: what the hub's steps answer and leave, on given bytes.
-use Rattle.std.specs.Prelude.{◌≡◌, ℕ, ◌+◌, List, [], ◌∷◌, ◌++◌, length, take, replicate, pos, negsuc, Some, Ok, Err, Result}
+use Rattle.std.specs.Prelude.{◌≡◌, ℕ, ◌+◌, List, [], ◌∷◌, ◌++◌, length, take, replicate, pos, negsuc, Some, None, Ok, Err, Option, Result}
 use Rattle.fault.specs.declared.Fault.{Fault}
 use Rattle.fault.specs.Table.{number_of, place_of}
 use Rattle.image.specs.Layout as image
@@ -104,8 +104,8 @@ next_packet =
     ∷ 0x06 ∷ 0x42 ∷ 1 ∷ 0 ∷ 230 ∷ 0
     ∷ []
 
--- the number of the answer that a switch awaits
-abbrev pub awaited_at : HubModel → ℕ → Result ℕ Fault
+-- the number of the answer that a switch awaits, if it awaits one
+abbrev pub awaited_at : HubModel → ℕ → Result (Option ℕ) Fault
 awaited_at h id = asked h id (λ m. Ok m.numbers.awaited)
 
 -- "Event, n" is an event with n messages understood; "n, p" is refusal n at place p.
@@ -143,15 +143,15 @@ pub record WorkedExamples : Type 0 where
   pub composes : answer_of (compose at220 7 room) ≡ Ok (record { size = 48; actors = 2; number = 1 })
   pub writes220 : composed_bytes at220 7 room ≡ packet
   pub closes_slip : answer_of (sent written 7 1) ≡ Ok tt
-  pub awaits_answer1 : awaited_at away 7 ≡ Ok 1
+  pub awaits_answer1 : awaited_at away 7 ≡ Ok (Some 1)
   pub actor1_under_way : actor_mark away 7 1 ≡ Ok UnderWay
   pub actor2_under_way : actor_mark away 7 2 ≡ Ok UnderWay
   pub control_under_way : control_mark away 7 ≡ Ok UnderWay
   -- then the target becomes 230, and the answer comes, 220 in it
   pub grants230 : answer_of (set_value away 1 Target (pos 230)) ≡ Ok tt
-  pub still_awaits_answer1 : awaited_at at230 7 ≡ Ok 1
+  pub still_awaits_answer1 : awaited_at at230 7 ≡ Ok (Some 1)
   pub takes_answer1 : answer_of (take_payload at230 packet) ≡ Ok (Answer, 5)
-  pub awaits_nothing : awaited_at answered 7 ≡ Ok 0
+  pub awaits_nothing : awaited_at answered 7 ≡ Ok None
   pub store_keeps230 : read_answer answered.store 1 ≡ Ok (pos 0, pos 230)
   pub actor1_due : actor_mark answered 7 1 ≡ Ok Due
   pub actor2_settled : actor_mark answered 7 2 ≡ Ok Settled

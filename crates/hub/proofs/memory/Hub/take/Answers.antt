@@ -1,6 +1,6 @@
-use Rattle.std.proofs.Common.{◌≡◌, Bool, cond, eqb, Ok, Err, sym, ap, ◌∙◌, rules}
+use Rattle.std.proofs.Common.{◌≡◌, Bool, cond, Ok, Err, sym, ap, ◌∙◌, rules}
 use Rattle.model.specs.declared.told.Arrival.TheVariants.{Answer, Stale}
-use Rattle.model.specs.Models.{answer_of, change_switch, hub_after}
+use Rattle.model.specs.Models.{answer_of, change_switch, hub_after, is_number}
 use Rattle.model.specs.Taking.{answered}
 use Rattle.switch.specs.Memory.{switch_model}
 use Rattle.hub.specs.Memory.{hub_model}
@@ -47,7 +47,7 @@ returns g c =
     let d = c.in_ok-words.words in
     let taken = answer_taken h c.args.payload.now d (switch_model c.in-Some.switch.now) c.in_ok-survey.survey
     c.in_ok-words.ensures.answer c.if-words-self.false c.in-Some.ensures c.in_ok-survey.ensures c.if-words-eq0.false in
-    let awaited = ap (λ n. eqb d.number n.awaited) c.numbers-awaited.ensures in
+    let awaited = c.eq.ensures ∙ ap (λ n. is_number n.awaited d.number) c.numbers-awaited.ensures in
     record {
       answer = ap Ok (c.take_answer.ensures.answer ∙ ap (λ (b : Bool). (cond b Answer Stale, c.in_ok-survey.survey.understood)) awaited) ∙ ap answer_of (sym taken);
       after = c.take_answer.ensures.after ∙ ap (λ (b : Bool). cond b (change_switch d.switch answered h) h) awaited ∙ ap (hub_after h) (sym taken);
