@@ -1,7 +1,8 @@
 -- The rules' own searches are the library's.
-use Rattle.std.proofs.Common.{◌≡◌, ℕ, ◌+◌, suc, Bool, true, false, cond, ◌||◌, List, [], ◌∷◌, Some, None, Option, length, filter, refl, ap, ◌==◌}
+use Rattle.std.proofs.Common.{◌≡◌, ℕ, suc, true, false, cond, ◌||◌, List, [], ◌∷◌, Some, length, filter, refl, ap, ◌==◌}
 use Rattle.std.specs.List.{find, list_any}
 use Rattle.std.specs.Option.{option_map}
+use Rattle.std.proofs.lemmas.List.Recursion.{same_from_clauses}
 use Rattle.store.specs.Lists.{lists}
 use Rattle.model.specs.declared.item.Item.{Item}
 use Rattle.model.specs.declared.mark.Mark.{Mark}
@@ -10,16 +11,13 @@ use Rattle.model.specs.Marks.{is_outstanding}
 use Rattle.model.specs.Models.{SwitchModel, any_outstanding, find_switch, is_actor, lists_actor, mark_of_actor}
 
 pub stands : (a : ℕ) (list : List ℕ) → list_any (λ x. x == a) list ≡ lists list a
-stands a [] = refl
-stands a (x ∷ list) = ap (λ b. (x == a) || b) (stands a list)
+stands a = same_from_clauses (list_any (λ x. x == a)) (λ list. lists list a) (λ x b. x == a || b) refl (λ _ _. refl) (λ _ _. refl)
 
 pub listed : (a : ℕ) (items : List Item) → list_any (is_actor a) items ≡ lists_actor a items
-listed a [] = refl
-listed a (x ∷ items) = ap (λ b. is_actor a x || b) (listed a items)
+listed a = same_from_clauses (list_any (is_actor a)) (lists_actor a) (λ x b. is_actor a x || b) refl (λ _ _. refl) (λ _ _. refl)
 
 pub any_of : (items : List Item) → list_any (λ x. is_outstanding x.mark) items ≡ any_outstanding items
-any_of [] = refl
-any_of (x ∷ items) = ap (λ b. is_outstanding x.mark || b) (any_of items)
+any_of = same_from_clauses (list_any (λ x. is_outstanding x.mark)) any_outstanding (λ x b. is_outstanding x.mark || b) refl (λ _ _. refl) (λ _ _. refl)
 
 pub counted : (items : List Item) → length (filter (λ x. is_outstanding x.mark) items) ≡ outstanding_actors items
 unfolding outstanding_actors
@@ -37,5 +35,4 @@ marked a (x ∷ items) = elim (is_actor a x) as (λ b. option_map {T = Item} {U 
 ]
 
 pub found : (id : ℕ) (ms : List SwitchModel) → find (λ m. m.id == id) ms ≡ find_switch id ms
-found id [] = refl
-found id (m ∷ ms) = ap (λ r. cond (m.id == id) (Some m) r) (found id ms)
+found id = same_from_clauses (find (λ m. m.id == id)) (find_switch id) (λ m r. cond (m.id == id) (Some m) r) refl (λ _ _. refl) (λ _ _. refl)

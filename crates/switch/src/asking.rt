@@ -6,12 +6,10 @@ ghost use Rattle.model.specs.Opening.{new_switch};
 ghost use Rattle.store.specs.Lists.{lists};
 ghost use Rattle.switch.specs.Items.{all_named};
 
-use crate::memory::Switch;
+use crate::items;
+use crate::memory::{MOST_ACTORS, Switch};
 use arrayvec::ArrayVec;
 use model::{Item, Mark, Numbers, Report};
-
-// How many actors a switch lists at most.
-pub const MOST_ACTORS: usize = 64;
 
 // The control word that a switch begins with.
 const FIRST_CONTROL: u32 = 0x0000_0130;
@@ -148,6 +146,6 @@ impl Switch {
     pub fn has_outstanding(&self) -> bool
         ensures { result ≡ has_outstanding self.now }
     {
-        self.items.iter().any(|item| item.mark.is_outstanding()) || self.mark.is_outstanding()
+        items::any_outstanding(self.items.as_slice()) || self.mark.is_outstanding()
     }
 }

@@ -1,6 +1,6 @@
 // The items of a switch, as a slice.
 ghost use Rattle.std.specs.Prelude.{◌≡◌, map};
-ghost use Rattle.model.specs.Models.{moved_item, touched_item};
+ghost use Rattle.model.specs.Models.{any_outstanding, moved_item, touched_item};
 
 use model::{Change, Item};
 
@@ -22,4 +22,11 @@ pub(crate) fn touch(items: &mut [Item], actor: u16)
             item.mark.note(Change::Changed);
         }
     }
+}
+
+// Whether any item is outstanding.
+pub(crate) fn any_outstanding(items: &[Item]) -> bool
+    ensures { result ≡ any_outstanding items.now }
+{
+    items.iter().any(|item| item.mark.is_outstanding())
 }

@@ -7,6 +7,6 @@ mod memory;
 mod row;
 mod stepping;
 
-pub use asking::{MOST_ACTORS, stands_in};
-pub use memory::Switch;
+pub use asking::stands_in;
+pub use memory::{MOST_ACTORS, Switch};
 pub use row::{change_at, find, touch_all};

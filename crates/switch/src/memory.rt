@@ -3,10 +3,13 @@ use arrayvec::ArrayVec;
 use model::{Item, Mark, Numbers, Report};
 use std::marker::Model;
 
+// How many actors a switch lists at most.
+pub const MOST_ACTORS: usize = 64;
+
 #[derive(Drop)]
 pub struct Switch {
     pub(crate) id: u16,
-    pub(crate) items: ArrayVec<Item, 64>,
+    pub(crate) items: ArrayVec<Item, MOST_ACTORS>,
     pub(crate) control: u32,
     pub(crate) mark: Mark,
     pub(crate) numbers: Numbers,

@@ -1,7 +1,5 @@
-use Rattle.std.proofs.Common.{◌≡◌, List, map, length, ap, ◌∙◌, sym, rules}
-use Rattle.model.specs.declared.item.Item.{Item}
+use Rattle.std.proofs.Common.{map, ap, ◌∙◌}
 use Rattle.model.specs.Models.{touched_item}
-use Rattle.switch.specs.Items.{all_named}
 use Rattle.switch.proofs.Named.{kept_named, touched_actor}
 use Rattle.switch.proofs.memory.Switch.touch.Goals as goal
 
