@@ -159,23 +159,22 @@ state_hits : (s a flags : ℕ) (h : HubModel) (b : Bool) → b ≡ true → DueH
 state_hits s a flags h true e = subst (DueAt a) (sym (find_at_same s (λ m. all_moved Changed (with_flags flags m)) (λ m. refl) h.switches)) (due_inited a _ (find_switch s h.switches))
 state_hits s a flags h false e = absurd (true≢false (sym e))
 
+neither : ⊥ ⊎ ⊥ → ⊥
+neither p = ⊎_elim (λ q. q) (λ q. q) p
+
 record_hits : (s a : ℕ) (x : Record) (h : HubModel) → is_some (h.store a) ≡ true → EditsRecord a x ⊎ InitsRecord x → DueHere s a (heard_record s x h)
 record_hits s a (State flags) h k (inl p) = absurd p
 record_hits s a (State flags) h k (inr p) = state_hits s a flags h (asks_init flags) p
-record_hits s a (Control word) h k (inl p) = absurd p
-record_hits s a (Control word) h k (inr p) = absurd p
+record_hits s a (Control word) h k p = absurd (neither p)
 record_hits s a (EditValue b v) h k (inl p) = edit_hits s a b v h (h.store b) (forbidden v) (ap (λ (n : ℕ). is_some (h.store n)) p.0 ∙ k) p.0 p.1
 record_hits s a (EditValue b v) h k (inr p) = absurd p
-record_hits s a (RealValue b v) h k (inl p) = absurd p
-record_hits s a (RealValue b v) h k (inr p) = absurd p
-record_hits s a (Event b key) h k (inl p) = absurd p
-record_hits s a (Event b key) h k (inr p) = absurd p
-record_hits s a (Temperature t) h k (inl p) = absurd p
-record_hits s a (Temperature t) h k (inr p) = absurd p
+record_hits s a (RealValue b v) h k p = absurd (neither p)
+record_hits s a (Event b key) h k p = absurd (neither p)
+record_hits s a (Temperature t) h k p = absurd (neither p)
 
 message_hits : (s a : ℕ) (m : Message) (h : HubModel) → is_some (h.store a) ≡ true → Hits a m → DueHere s a (heard_message s m h)
 message_hits s a (message.Known x) h k p = record_hits s a x h k p
-message_hits s a (message.Unknown ident) h k p = absurd (⊎_elim (λ q. q) (λ q. q) p)
+message_hits s a (message.Unknown ident) h k p = absurd (neither p)
 
 pub hear_hits : (s a : ℕ) (ms : List Message) (h : HubModel) → is_some (h.store a) ≡ true → Any (Hits a) ms → DueAt a (find_switch s (hear_all s ms h).switches)
 unfolding hear_all

@@ -1,6 +1,6 @@
 -- Every move keeps what holds of the world.
 use Rattle.std.proofs.Common.{◌≡◌, ℕ, suc, ◌^◌, ◌<◌, ◌≤◌, Bool, true, false, cond, List, [], ◌∷◌, map, length, take, ℤ, is_some, Some, None, Ok, Option, sym, refl, ap, ◌∙◌, subst, inl, le_refl, arith}
-use Rattle.std.specs.Option.{option_map}
+use Rattle.std.specs.Option.{option_map, option_or}
 use Rattle.std.specs.List.{AllByRecursion}
 use Rattle.std.proofs.lemmas.List.{length-map}
 use Rattle.packet.specs.declared.records.Message.{Message}
@@ -33,7 +33,7 @@ use Rattle.law.proofs.Held.{Lawful, put_lawful, put_recalls}
 use Rattle.law.proofs.Invariant.{Enrolled, Here, Holds, ItemFine, SwitchFine, number_in, number_of}
 use Rattle.law.proofs.Items.{listed_entry}
 use Rattle.law.proofs.Packets.{Fresh, here_composed, here_delivered, here_lost, here_sent, here_withheld}
-use Rattle.law.proofs.Switches.{KeepsId, find_append, find_map, one_end, one_step, one_switch, or_else}
+use Rattle.law.proofs.Switches.{KeepsId, find_append, find_map, one_end, one_step, one_switch}
 use Rattle.law.proofs.Taken.{all_listed, answer_is, answered_if, event_is, hear_all}
 use Rattle.law.proofs.Written.{packet_says, told}
 
@@ -48,7 +48,7 @@ module _ (words : Site) where
   short_list list h = subst (λ (n : ℕ). n ≤ 64) (sym (length-map list due_item)) h
 
   here_new : (st : Known) (id : ℕ) (list : List ℕ) (e : End) → id < 2 ^ 16 → AllByRecursion (λ a. a < 2 ^ 16) list → length list ≤ 64 → AllByRecursion (Entry st) list
-      → (b : Bool) (o : Option SwitchModel) → Here st o e → Here st (or_else o (cond b (Some (new_switch id list)) None)) e
+      → (b : Bool) (o : Option SwitchModel) → Here st o e → Here st (option_or o (cond b (Some (new_switch id list)) None)) e
   unfolding number_of
   here_new st id list e small f short k b (Some m) h = h
   here_new st id list e small f short k false None h = h

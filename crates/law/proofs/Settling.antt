@@ -1,6 +1,6 @@
 -- From a compose on, with no change, until its answer is taken: no item of the switch is due.
 use Rattle.std.proofs.Common.{◌≡◌, ℕ, suc, Bool, true, false, cond, eqb, ◌⊎◌, List, [], ◌∷◌, ◌++◌, map, take, ℤ, Some, None, Ok, Option, sym, refl, ap, ◌∙◌, subst, inl, inr, ⊎_elim, append-nil, arith}
-use Rattle.std.specs.Option.{option_map}
+use Rattle.std.specs.Option.{option_map, option_or}
 use Rattle.std.specs.List.{AllByRecursion}
 use Rattle.std.proofs.lemmas.Bool.{eq-eqb, eqb-false, eqb-true, ne_eqb, or_from}
 use Rattle.packet.specs.declared.records.Message.{Message}
@@ -33,7 +33,7 @@ use Rattle.law.proofs.Invariant.{AboutFine, Between, Delivered, Enrolled, Here, 
 use Rattle.law.proofs.Marks.{not_due_composed, settled_answered, settled≢due}
 use Rattle.law.proofs.Moves.{keep, keep_run}
 use Rattle.law.proofs.Quiet.{Kept, hear_quiet, kept_same, kept_untouched}
-use Rattle.law.proofs.Switches.{KeepsId, find_append, find_at_other, find_at_same, find_map, or_else}
+use Rattle.law.proofs.Switches.{KeepsId, find_append, find_at_other, find_at_same, find_map}
 use Rattle.law.proofs.Taken.{answer_is, answered_if, event_is, hear_all}
 use Rattle.law.proofs.Truth.{holds_at_opening}
 
@@ -210,7 +210,7 @@ module _ (k : ℕ) where
       let m = waiting_switch (find_switch s w.hub.switches) (w.ends s) y in
       subst (λ h. Waits (find_switch s h.switches) (w.ends s)) (sym r.0)
       (waits_found _ _ (w.ends s) m.0 m.0 m.1
-      (find_append s w.hub.switches (new_switch id list) ∙ ap (λ o. or_else o (cond (eqb id s) (Some (new_switch id list)) None)) m.1) (kept_same m.0) y)
+      (find_append s w.hub.switches (new_switch id list) ∙ ap (λ o. option_or o (cond (eqb id s) (Some (new_switch id list)) None)) m.1) (kept_same m.0) y)
   waits_move site s {w} (world.Move.sets half a v g p) i q y = waits_set s w a half v g p q y
   waits_move site s {w} (world.Move.sets_control id word g p) i q y =
       subst (λ h. Waits (find_switch s h.switches) (w.ends s)) (sym (control_is w.hub id word g p))

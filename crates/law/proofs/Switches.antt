@@ -1,6 +1,6 @@
 -- Looking up a switch after a step of the hub.
 use Rattle.std.proofs.Common.{◌≡◌, ℕ, Bool, true, false, cond, eqb, List, [], ◌∷◌, ◌++◌, map, Some, None, Option, sym, refl, ap, ◌∙◌, subst, ⊎_elim}
-use Rattle.std.specs.Option.{option_map}
+use Rattle.std.specs.Option.{option_map, option_or}
 use Rattle.std.proofs.lemmas.Bool.{cases_eq, eqb-false, eqb-true, ne_eqb}
 use Rattle.model.specs.Models.{SwitchModel, at_switch, find_switch}
 
@@ -73,15 +73,11 @@ one_end {V} R s ms v u r x t = go (eqb s t) refl
     go false e = r t
 
 -- enrolment
-abbrev pub or_else : Option SwitchModel → Option SwitchModel → Option SwitchModel
-or_else None o = o
-or_else (Some m) o = Some m
-
-pub find_append : (s : ℕ) (ms : List SwitchModel) (n : SwitchModel) → find_switch s (ms ++ (n ∷ [])) ≡ or_else (find_switch s ms) (cond (eqb n.id s) (Some n) None)
+pub find_append : (s : ℕ) (ms : List SwitchModel) (n : SwitchModel) → find_switch s (ms ++ (n ∷ [])) ≡ option_or (find_switch s ms) (cond (eqb n.id s) (Some n) None)
 find_append s [] n = refl
 find_append s (m ∷ ms) n = go (eqb m.id s) (find_append s ms n)
   where
-    go : (b : Bool) → find_switch s (ms ++ (n ∷ [])) ≡ or_else (find_switch s ms) (cond (eqb n.id s) (Some n) None)
-        → cond b (Some m) (find_switch s (ms ++ (n ∷ []))) ≡ or_else (cond b (Some m) (find_switch s ms)) (cond (eqb n.id s) (Some n) None)
+    go : (b : Bool) → find_switch s (ms ++ (n ∷ [])) ≡ option_or (find_switch s ms) (cond (eqb n.id s) (Some n) None)
+        → cond b (Some m) (find_switch s (ms ++ (n ∷ []))) ≡ option_or (cond b (Some m) (find_switch s ms)) (cond (eqb n.id s) (Some n) None)
     go true ih = refl
     go false ih = ih

@@ -1,8 +1,9 @@
 -- The slips at hand are those that the hub has out: every call keeps this, where a composed slip joins them and one that is handed in leaves.
 use Rattle.std.proofs.Common.{◌≡◌, ℕ, suc, ◌<◌, Bool, true, false, cond, not, eqb, List, [], ◌∷◌, ◌++◌, length, get_or, take, drop, ℤ, is_some, is_ok, Some, None, Ok, Err, Option, Result, sym, refl, ap, ◌∙◌, append-nil, drop-cons}
-use Rattle.std.specs.Option.{option_map, option_to_list}
+use Rattle.std.specs.Option.{option_map, option_or, option_to_list}
 use Rattle.std.proofs.lemmas.List.{take-append-drop}
 use Rattle.std.proofs.lemmas.Bool.{eq-eqb, true≢false}
+use Rattle.std.proofs.lemmas.Option.{none-some}
 use Rattle.fault.specs.declared.CallFault.TheVariants.{ControlWord, NoSlip}
 use Rattle.fault.specs.declared.Fault.{Fault}
 use Rattle.fault.specs.declared.Fault.TheVariants as fault
@@ -19,15 +20,15 @@ use Rattle.store.specs.Meaning.{Known, put_answer}
 use Rattle.model.specs.declared.told.Arrival.{Arrival}
 use Rattle.model.specs.declared.told.Arrival.TheVariants as arrival
 use Rattle.model.specs.declared.told.Site.{Site}
-use Rattle.model.specs.Composing.{Composition, brought_back, closed_slip, compose, compose_for, composed, hand_in, is_open_slip, sent, withheld}
-use Rattle.model.specs.Models.{HubModel, Step, SwitchModel, change_switch, find_switch, hub_after, touched, with_control, with_switches}
+use Rattle.model.specs.Composing.{Composition, brought_back, closed_slip, compose, compose_for, composed, hand_in, sent, withheld}
+use Rattle.model.specs.Models.{HubModel, Step, SwitchModel, change_switch, find_switch, hub_after, is_number, touched, with_control, with_switches}
 use Rattle.model.specs.Opening.{enrol, enrol_fault, new_hub, new_switch, opened, unless}
 use Rattle.model.specs.Settings.{at_enrolled, granted, lawful_control, set_control, set_value, with_value}
 use Rattle.model.specs.Taking.{answered, event_unless, first_unlisted, heard, heard_message, take_answer, take_event, take_from, take_messages, take_ours, take_payload}
-use Rattle.law.proofs.Elements.{cons≢nil, err≢ok, none≢some}
+use Rattle.law.proofs.Elements.{cons≢nil, err≢ok}
 use Rattle.law.proofs.Granted.{compose_is}
 use Rattle.law.proofs.Hearing.{hear_keeps}
-use Rattle.law.proofs.Switches.{KeepsId, find_append, find_map, found_after, one_step, or_else}
+use Rattle.law.proofs.Switches.{KeepsId, find_append, find_map, found_after, one_step}
 use Rattle.law.proofs.Taken.{hear_all}
 use Rattle.hub.specs.Compositions.{composition}
 use Rattle.hub.specs.Memory.{handed_back}
@@ -64,7 +65,7 @@ pub holds_enrol : (h : HubModel) (id : ℕ) (list : List ℕ) (slips : List Slip
 holds_enrol h id list slips all = go (enrol_fault h id list)
   where
     -- a new switch has no slip out
-    same : (b : Bool) (o : Option SwitchModel) → slip_in (or_else o (cond b (Some (new_switch id list)) None)) ≡ slip_in o
+    same : (b : Bool) (o : Option SwitchModel) → slip_in (option_or o (cond b (Some (new_switch id list)) None)) ≡ slip_in o
     same b (Some m) = refl
     same true None = refl
     same false None = refl
@@ -118,7 +119,7 @@ holds_messages h m d slips (Ok ms) all = go (eqb d.number 0)
 
     go : (b : Bool) → HoldsAll (hub_after h (cond b (take_event h m d.switch ms) (take_answer h m d.switch d.number ms))) slips
     go true = event (first_unlisted m.items ms)
-    go false = answer (eqb d.number m.numbers.awaited)
+    go false = answer (is_number m.numbers.awaited d.number)
 
 pub holds_take : (h : HubModel) (payload : List ℕ) (slips : List Slip) → HoldsAll h slips → HoldsAll (hub_after h (take_payload h payload)) slips
 holds_take h payload slips all = go (descriptor_of payload)
@@ -221,10 +222,10 @@ module _ (h : HubModel) (a b : List Slip) (x : Slip) (all : HoldsAll h (a ++ x �
     taken_in = go (find_switch x.switch h.switches) is_out
       where
         go : (o : Option SwitchModel) → slip_in o ≡ Some x.number → hand_in f h x.switch x.number o ≡ Ok (tt, change_switch x.switch f h)
-        go None e = absurd (none≢some e)
+        go None e = absurd (none-some _ e)
         go (Some m) e =
             ap (λ (t : Bool). cond {A = Step Unit} t (Ok (tt, change_switch x.switch f h)) (Err (fault.Call NoSlip 0)))
-            (ap (λ (o : Option ℕ). is_open_slip o x.number) e ∙ eq-eqb x.number x.number refl)
+            (ap (λ (o : Option ℕ). is_number o x.number) e ∙ eq-eqb x.number x.number refl)
 
     handed_owed : is_ok (hand_in f h x.switch x.number (find_switch x.switch h.switches)) ≡ true
     handed_owed = ap is_ok taken_in

@@ -3,7 +3,7 @@ use Rattle.std.proofs.Common.{◌≡◌, ℕ, suc, ◌+◌, ◌<◌, ◌≤◌, 
 use Rattle.std.specs.Option.{option_map}
 use Rattle.std.proofs.lemmas.List.{at_drop_more, at_drop_all}
 use Rattle.std.proofs.lemmas.Bool.{and_parts, cond-false, cond-true, eqb-true}
-use Rattle.law.proofs.Elements.{none≢some, some_inj}
+use Rattle.std.proofs.lemmas.Option.{none-some, same_Some}
 use Rattle.hub.specs.declared.slip.Slip.{Slip}
 use Rattle.stage.specs.Slips.{is_for, place_for}
 
@@ -37,7 +37,7 @@ from_start (Some k) = ap Some (omega arith)
 -- the slip at the place that was found is the one that was looked for
 pub place_is : (switch number : ℕ) (slips : List Slip) (i : ℕ) (d : Slip) → place_for switch number slips ≡ Some i → get_or slips i d ≡ record { switch = switch; number = number }
 unfolding place_for
-place_is switch number [] i d e = absurd (none≢some e)
+place_is switch number [] i d e = absurd (none-some _ e)
 place_is switch number (x ∷ slips) i d e = go (is_for switch number x) refl (λ k. place_is switch number slips k d) e
   where
     named : is_for switch number x ≡ true → x ≡ record { switch = switch; number = number }
@@ -47,10 +47,10 @@ place_is switch number (x ∷ slips) i d e = go (is_for switch number x) refl (�
 
     behind : (o : Option ℕ) → ((k : ℕ) → o ≡ Some k → get_or slips k d ≡ record { switch = switch; number = number }) → option_map suc o ≡ Some i
         → get_or (x ∷ slips) i d ≡ record { switch = switch; number = number }
-    behind None ih f = absurd (none≢some f)
-    behind (Some k) ih f = subst (λ (j : ℕ). get_or (x ∷ slips) j d ≡ record { switch = switch; number = number }) (some_inj f) (ih k refl)
+    behind None ih f = absurd (none-some _ f)
+    behind (Some k) ih f = subst (λ (j : ℕ). get_or (x ∷ slips) j d ≡ record { switch = switch; number = number }) (same_Some _ _ f) (ih k refl)
 
     go : (b : Bool) → is_for switch number x ≡ b → ((k : ℕ) → place_for switch number slips ≡ Some k → get_or slips k d ≡ record { switch = switch; number = number })
         → cond b (Some 0) (option_map suc (place_for switch number slips)) ≡ Some i → get_or (x ∷ slips) i d ≡ record { switch = switch; number = number }
-    go true q ih f = subst (λ (j : ℕ). get_or (x ∷ slips) j d ≡ record { switch = switch; number = number }) (some_inj f) (named q)
+    go true q ih f = subst (λ (j : ℕ). get_or (x ∷ slips) j d ≡ record { switch = switch; number = number }) (same_Some _ _ f) (named q)
     go false q ih f = behind (place_for switch number slips) ih f
