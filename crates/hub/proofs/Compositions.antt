@@ -1,13 +1,11 @@
 -- Composing for a switch whose slip is in and for which something is outstanding: the buffer's length decides.
-use Rattle.std.proofs.Common.{◌≡◌, ℕ, ◌<◌, ◌≤◌, true, false, not, ltb, List, length, is_some, Ok, Err, Result, ap, ◌∙◌}
+use Rattle.std.proofs.Common.{◌≡◌, ℕ, ◌<◌, ◌≤◌, true, false, not, ltb, List, length, is_some, Ok, Err, ap, ◌∙◌}
 use Rattle.std.proofs.lemmas.Bool.{cond-false, cond-true, le-ltb, lt-ltb}
 use Rattle.fault.specs.declared.CallFault.TheVariants.{ShortBuffer}
-use Rattle.fault.specs.declared.Fault.{Fault}
 use Rattle.fault.specs.declared.Fault.TheVariants.{Call}
 use Rattle.model.specs.Composing.{compose_for, composed, composition_for, has_outstanding, words_for}
 use Rattle.model.specs.Models.{HubModel, SwitchModel, change_switch}
-use Rattle.hub.specs.Compositions.{composition, packet_length}
-use Rattle.hub.specs.declared.composing.Composed.{Composed}
+use Rattle.hub.specs.Compositions.{packet_length}
 use Rattle.hub.proofs.Written.{packet_long}
 
 module _ (h : HubModel) (id : ℕ) (buf : List ℕ) (m : SwitchModel) (free : is_some m.numbers.slip ≡ false) (some : has_outstanding m ≡ true) where
@@ -20,11 +18,3 @@ module _ (h : HubModel) (id : ℕ) (buf : List ℕ) (m : SwitchModel) (free : is
   compose_room e =
       let long = packet_long (words_for h m) h.store m in
       cond-false _ _ _ free ∙ cond-false _ _ _ (ap not some) ∙ cond-false _ _ _ (ap (ltb (length buf)) long ∙ le-ltb _ _ e)
-
--- what is told, by its three numbers
-abbrev pub told : HubModel → ℕ → ℕ → ℕ → ℕ → Result Composed Fault
-told h id size actors number = composition id (Ok (record { size = size; actors = actors; number = number }, h))
-
-pub told_alike : (h : HubModel) (id : ℕ) (l k a b n p : ℕ) → l ≡ k → a ≡ b → n ≡ p → told h id l a n ≡ told h id k b p
-told_alike h id l k a b n p size actors number =
-    ap (λ (x : ℕ). told h id x a n) size ∙ ap (λ (x : ℕ). told h id k x n) actors ∙ ap (λ (x : ℕ). told h id k b x) number

@@ -1,6 +1,7 @@
 -- The checking pass, one message after another.
 use Rattle.std.proofs.Common.{◌≡◌, ℕ, ◌+◌, ◌≤◌, Bool, true, false, cond, List, [], is_ok, Some, None, Ok, Err, Option, Result, refl, ap, ap₂, arith}
 use Rattle.std.proofs.lemmas.Bool.{false≢true}
+use Rattle.std.specs.Option.{option_or}
 use Rattle.fault.specs.declared.Fault.{Fault}
 use Rattle.packet.specs.declared.records.Message.{Message}
 use Rattle.packet.specs.Messages.{is_known}
@@ -9,11 +10,11 @@ use Rattle.model.specs.declared.item.Item.{Item}
 use Rattle.model.specs.Models.{HubModel}
 use Rattle.model.specs.Taking.{first_unlisted, heard, heard_message, message_listed}
 use Rattle.hub.specs.declared.taking.Survey.{Survey}
-use Rattle.hub.specs.Surveys.{earlier, heard_all, noted, survey_of}
+use Rattle.hub.specs.Surveys.{heard_all, noted, survey_of}
 
 -- a survey so far, and that of what is left
 abbrev pub onto : Survey → Result Survey Fault → Result Survey Fault
-onto s (Ok t) = Ok (record { understood = s.understood + t.understood; unlisted = earlier s.unlisted t.unlisted })
+onto s (Ok t) = Ok (record { understood = s.understood + t.understood; unlisted = option_or s.unlisted t.unlisted })
 onto s (Err e) = Err e
 
 abbrev pub nothing_seen : Survey
@@ -30,11 +31,11 @@ pub onto_end : (items : List Item) (s : Survey) → onto s (survey_of items (Ok 
 unfolding first_unlisted
 onto_end items s = ap₂ (λ (n : ℕ) (u : Option ℕ). Ok (survey n u)) (omega arith) (last s.unlisted)
   where
-    last : (u : Option ℕ) → earlier u None ≡ u
+    last : (u : Option ℕ) → option_or u None ≡ u
     last (Some place) = refl
     last None = refl
 
-first_of : (u f : Option ℕ) (listed : Bool) (place : ℕ) → earlier u (cond listed f (Some place)) ≡ earlier (earlier u (cond listed None (Some place))) f
+first_of : (u f : Option ℕ) (listed : Bool) (place : ℕ) → option_or u (cond listed f (Some place)) ≡ option_or (option_or u (cond listed None (Some place))) f
 first_of (Some p) f listed place = refl
 first_of None f true place = refl
 first_of None f false place = refl

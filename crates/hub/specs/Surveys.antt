@@ -1,5 +1,6 @@
 -- The checking pass over a payload's messages: how many are understood, and the first for an actor that the switch does not list.
 use Rattle.std.specs.Prelude.{◌≡◌, ℕ, ◌+◌, cond, List, [], Some, None, Ok, Err, Option, Result}
+use Rattle.std.specs.Option.{option_or}
 use Rattle.fault.specs.declared.Fault.{Fault}
 use Rattle.packet.specs.declared.records.Message.{Message}
 use Rattle.packet.specs.Messages.{is_known, understood}
@@ -20,14 +21,10 @@ heard_all id (Ok ms) h = heard id ms h
 heard_all id (Err e) h = h
 
 -- One message more in a survey.
-abbrev pub earlier : Option ℕ → Option ℕ → Option ℕ
-earlier (Some place) other = Some place
-earlier None other = other
-
 abbrev pub noted : List Item → ℕ → Message → Survey → Survey
 noted items place m s = record {
   understood = s.understood + cond (is_known m) 1 0;
-  unlisted = earlier s.unlisted (cond (message_listed items m) None (Some place));
+  unlisted = option_or s.unlisted (cond (message_listed items m) None (Some place));
 }
 
 -- One message of the applying pass: it and what follows it are what was left to read; or nothing was left.

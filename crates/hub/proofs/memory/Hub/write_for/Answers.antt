@@ -5,7 +5,7 @@ use Rattle.model.specs.Composing.{has_outstanding, packet_for, packet_over, reco
 use Rattle.model.specs.declared.told.Numbers.{Numbers}
 use Rattle.hub.specs.Compositions.{composition, packet_length}
 use Rattle.hub.specs.Memory.{hub_model}
-use Rattle.hub.proofs.Compositions.{compose_room, compose_short, told_alike}
+use Rattle.hub.proofs.Compositions.{compose_room, compose_short}
 use Rattle.hub.proofs.Written.{packet_long}
 use Rattle.hub.proofs.memory.Hub.write_for.Goals as goal
 
@@ -24,8 +24,8 @@ returns-then-buf-length g c =
       bytes = sym (ap (packet_over h (Some m) buf) told);
     }
 
-pub returns : goal.returns
-returns g c =
+pub returns-clause-bytes : goal.returns-clause-bytes
+returns-clause-bytes g c =
     let h = hub_model g.S.ActorStore.meaning c.args.self.now in
     let m = c.args.switch.now in
     let id = c.args.id in
@@ -33,11 +33,6 @@ returns g c =
     let free : is_some m.numbers.slip ≡ false = ap (λ (n : Numbers). is_some n.slip) (sym c.numbers.ensures) ∙ sym c.if-is_some.ensures in
     let some : has_outstanding m ≡ true = sym c.if-not-has_outstanding.ensures in
     let room : packet_length m ≤ length buf = omega (arith, c.if-buf-length.false, c.packet_length-length.ensures) in
-    let granted = compose_room h id buf m free some room in
     let long : packet_length m ≡ length (packet_for h m) = sym (packet_long (words_for h m) h.store m) in
-    let size = c.packet_length-length.ensures ∙ long in
     let written = ap (λ (w : Descriptor). packet_bytes w (records_for h.store m)) c.words_for.ensures in
-    record {
-      answer = told_alike h id _ _ _ _ _ _ size c.outstanding_actors.ensures.answer (ap (λ (n : Numbers). n.next) c.numbers-number.ensures) ∙ sym (ap (composition id) granted);
-      bytes = c.write_packet.ensures ∙ ap₂ (λ (p : List ℕ) (n : ℕ). p ++ drop n buf) written long ∙ sym (ap (packet_over h (Some m) buf) granted);
-    }
+    c.write_packet.ensures ∙ ap₂ (λ (p : List ℕ) (n : ℕ). p ++ drop n buf) written long ∙ sym (ap (packet_over h (Some m) buf) (compose_room h id buf m free some room))
