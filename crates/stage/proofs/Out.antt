@@ -20,7 +20,7 @@ use Rattle.store.specs.Meaning.{Known, put_answer}
 use Rattle.model.specs.declared.told.Arrival.{Arrival}
 use Rattle.model.specs.declared.told.Arrival.TheVariants as arrival
 use Rattle.model.specs.declared.told.Site.{Site}
-use Rattle.model.specs.Composing.{Composition, brought_back, closed_slip, compose, compose_for, composed, hand_in, sent, withheld}
+use Rattle.model.specs.Composing.{Composition, brought_back, closed_slip, compose, compose_for, composed, hand_in}
 use Rattle.model.specs.Models.{HubModel, Step, SwitchModel, change_switch, find_switch, hub_after, is_number, touched, with_control, with_switches}
 use Rattle.model.specs.Opening.{enrol, enrol_fault, new_hub, new_switch, opened, unless}
 use Rattle.model.specs.Settings.{at_enrolled, granted, lawful_control, set_control, set_value, with_value}
@@ -34,7 +34,9 @@ use Rattle.hub.specs.Compositions.{composition}
 use Rattle.hub.specs.Memory.{handed_back}
 use Rattle.hub.specs.declared.composing.Composed.{Composed}
 use Rattle.hub.specs.declared.slip.Slip.{Slip}
-use Rattle.stage.specs.Slips.{HoldsAll, SameOut, numbers_for, slip_in, slip_out}
+use Rattle.stage.specs.Slips.{HoldsAll, SameOut, handed_in, numbers_for, slip_in, slip_out}
+use Rattle.stage.specs.declared.slips.Fate.{Fate}
+use Rattle.stage.specs.declared.slips.Fate.TheVariants.{Sent, Withheld}
 
 pub holds_new : (site : Site) (store : Known) → HoldsAll (new_hub site store) []
 unfolding numbers_for
@@ -240,17 +242,13 @@ module _ (h : HubModel) (a b : List Slip) (x : Slip) (all : HoldsAll h (a ++ x �
         none None = refl
         none (Some m) = ap option_to_list (sym (k m))
 
-  pub sent_owed : is_ok (sent h x.switch x.number) ≡ true
-  sent_owed = handed_owed closed_slip (λ m. refl) (λ m. refl)
+  pub owed : (fate : Fate) → is_ok (handed_in fate h x) ≡ true
+  owed Sent = handed_owed closed_slip (λ m. refl) (λ m. refl)
+  owed Withheld = handed_owed brought_back (λ m. refl) (λ m. refl)
 
-  pub sent_left : HoldsAll (hub_after h (sent h x.switch x.number)) (a ++ b)
-  sent_left = handed_left closed_slip (λ m. refl) (λ m. refl)
-
-  pub withheld_owed : is_ok (withheld h x.switch x.number) ≡ true
-  withheld_owed = handed_owed brought_back (λ m. refl) (λ m. refl)
-
-  pub withheld_left : HoldsAll (hub_after h (withheld h x.switch x.number)) (a ++ b)
-  withheld_left = handed_left brought_back (λ m. refl) (λ m. refl)
+  pub left : (fate : Fate) → HoldsAll (hub_after h (handed_in fate h x)) (a ++ b)
+  left Sent = handed_left closed_slip (λ m. refl) (λ m. refl)
+  left Withheld = handed_left brought_back (λ m. refl) (λ m. refl)
 
 -- the same hub and the same slips under other names
 pub holds_as : (h g : HubModel) (xs ys : List Slip) → g ≡ h → ys ≡ xs → HoldsAll h xs → HoldsAll g ys

@@ -5,25 +5,22 @@ ghost use Rattle.script.specs.Calls.{said};
 ghost use Rattle.stage.specs.Slips.{HandsIn, HoldsAll, SameOut, handed_for, place_for};
 
 use crate::slips::{Fate, hand_in, keep, place};
-use crate::telling::{
-    tell_arrival, tell_done, tell_flags, tell_key, tell_mark, tell_packet, tell_reading,
-    tell_refusal,
-};
+use crate::telling::{LatestKey, Reading, Taken, tell, tell_done, tell_packet, tell_refusal};
 use fault::Fault;
 use hub::{Composed, Hub, Slip};
-use model::Arrival;
 use packet::PAYLOAD_MOST;
 use script::Call;
 use std::io;
 use store::meaning::ActorStore;
 
 // Reads the payload that a text spells, and gives it to the hub.
-fn take<S: ActorStore>(hub: &mut Hub<S>, text: &[u8]) -> Result<(Arrival, usize), Fault>
+fn take<S: ActorStore>(hub: &mut Hub<S>, text: &[u8]) -> Result<Taken, Fault>
     ensures { SameOut (hub_model S.ActorStore.meaning hub.old) (hub_model S.ActorStore.meaning hub.new) }
 {
     let mut payload = [0; PAYLOAD_MOST];
     let length = hexadecimal::decode(text, &mut payload)?;
-    hub.take(&payload[0..length])
+    let (arrival, count) = hub.take(&payload[..length])?;
+    Ok(Taken { arrival, count })
 }
 
 // Composes into a buffer, and keeps the slip.
@@ -84,12 +81,12 @@ fn apply<S: ActorStore>(rt: &impl Print, hub: &mut Hub<S>, call: Call<'_>) -> io
         Call::Actual { actor, value } => tell_done(rt, hub.set_actual(actor, value)),
         Call::Target { actor, value } => tell_done(rt, hub.set_target(actor, value)),
         Call::Control { switch, word } => tell_done(rt, hub.set_control(switch, word)),
-        Call::Take(text) => tell_arrival(rt, take(hub, text)),
-        Call::Marks { switch, actor } => tell_mark(rt, hub.actor_mark(switch, actor)),
-        Call::Word(switch) => tell_mark(rt, hub.control_mark(switch)),
-        Call::Flags(switch) => tell_flags(rt, hub.flags(switch)),
-        Call::Key(switch) => tell_key(rt, hub.latest_key(switch)),
-        Call::Reading(switch) => tell_reading(rt, hub.reading(switch)),
+        Call::Take(text) => tell(rt, take(hub, text)),
+        Call::Marks { switch, actor } => tell(rt, hub.actor_mark(switch, actor)),
+        Call::Word(switch) => tell(rt, hub.control_mark(switch)),
+        Call::Flags(switch) => tell(rt, hub.flags(switch)),
+        Call::Key(switch) => tell(rt, hub.latest_key(switch).map(LatestKey)),
+        Call::Reading(switch) => tell(rt, hub.reading(switch).map(Reading)),
         _ => rt.println("unknown"),
     }
 }

@@ -11,6 +11,7 @@ mod telling;
 
 use calls::make;
 use fault::Fault;
+use hexadecimal::Lines;
 use hub::{Hub, Slip};
 use image::block::Image;
 use model::Site;
@@ -34,9 +35,7 @@ fn make_all<S: ActorStore>(
     requires { HoldsAll (hub_model S.ActorStore.meaning hub.old) held.old.items }
     ensures { HoldsAll (hub_model S.ActorStore.meaning hub.new) held.new.items }
 {
-    let mut left = text;
-    while let Some((line, rest)) = hexadecimal::next_line(left) {
-        left = rest;
+    for line in Lines::new(text) {
         if script::is_passed_over(line) {
             continue;
         }
@@ -85,23 +84,30 @@ fn run<S: ActorStore + Drop>(
     told
 }
 
-// Opens a hub over the store, and runs the rest of the script on it; tells whether it was opened.
+// What became of a line before the hub is open: it opened the hub, and the rest of the script was run on it, or it opened none.
+#[derive(Clone, Copy, PartialEq, Eq, Debug)]
+enum Begun {
+    Ran,
+    Unopened,
+}
+
+// Opens a hub over the store, and runs the rest of the script on it.
 fn open_over<S: ActorStore + Drop>(
     rt: &impl Print,
     heap: Global,
     store: S,
     site: Site,
     rest: &[u8],
-) -> io::Result<bool> {
+) -> io::Result<Begun> {
     match Hub::open(store, site) {
         Ok(hub) => {
             rt.println("ok")?;
             run(rt, heap, hub, rest)?;
-            Ok(true)
+            Ok(Begun::Ran)
         }
         Err(back) => {
             tell_refusal(rt, back.0)?;
-            Ok(false)
+            Ok(Begun::Unopened)
         }
     }
 }
@@ -110,7 +116,7 @@ fn open_over<S: ActorStore + Drop>(
 fn read_image(text: &[u8]) -> Result<Image, Fault> {
     let mut block = [0; PAYLOAD_MOST];
     let length = hexadecimal::decode(text, &mut block)?;
-    Image::open(&block[0..length])
+    Image::open(&block[..length])
 }
 
 fn open(
@@ -119,7 +125,7 @@ fn open(
     store: Store<'_>,
     site: Site,
     rest: &[u8],
-) -> io::Result<bool> {
+) -> io::Result<Begun> {
     let fault = match store {
         Store::Table(list) => match Table::open(list.entries()) {
             Ok(table) => return open_over(rt, heap, table, site, rest),
@@ -131,30 +137,33 @@ fn open(
         },
     };
     tell_refusal(rt, fault)?;
-    Ok(false)
+    Ok(Begun::Unopened)
 }
 
-// A line before the hub is open; tells whether it opened the hub, on which the rest was run.
-fn begin(rt: &impl Print, heap: Global, line: &[u8], rest: &[u8]) -> io::Result<bool> {
+// A line before the hub is open.
+fn begin(rt: &impl Print, heap: Global, line: &[u8], rest: &[u8]) -> io::Result<Begun> {
     match script::parse(line) {
         Some(Call::Open { site, store }) => open(rt, heap, store, site, rest),
         Some(_) => {
             rt.println("unready")?;
-            Ok(false)
+            Ok(Begun::Unopened)
         }
         None => {
             rt.println("unknown")?;
-            Ok(false)
+            Ok(Begun::Unopened)
         }
     }
 }
 
 fn stage(rt: &impl Print, heap: Global, text: &[u8]) -> io::Result<()> {
-    let mut left = text;
-    while let Some((line, rest)) = hexadecimal::next_line(left) {
-        left = rest;
-        if !script::is_passed_over(line) && begin(rt, heap, line, rest)? {
-            return Ok(());
+    let mut lines = Lines::new(text);
+    while let Some(line) = lines.next() {
+        if script::is_passed_over(line) {
+            continue;
+        }
+        match begin(rt, heap, line, lines.rest())? {
+            Begun::Ran => return Ok(()),
+            Begun::Unopened => {}
         }
     }
     Ok(())

@@ -1,26 +1,20 @@
 // The slips that are out: kept until the script hands them in.
 ghost use Rattle.std.specs.Prelude.{◌≡◌, ◌+◌, ◌<◌, true, [], ◌∷◌, ◌++◌, length, IfSome, is_ok, vec_len, slice_index_or};
-ghost use Rattle.model.specs.Composing.{sent, withheld};
 ghost use Rattle.model.specs.Models.{hub_after};
 ghost use Rattle.hub.specs.Memory.{hub_model};
 ghost use Rattle.hub.specs.declared.slip.Slip.{Slip};
-ghost use Rattle.stage.specs.Slips.{HoldsAll, handed_in, is_for, place_for};
+ghost use Rattle.stage.specs.Slips.{HoldsAll, handed_in, place_for};
 
+use fault::Fault;
 use hub::{Hub, Slip};
 use std::alloc::AllocError;
 use store::meaning::ActorStore;
 
 // What became of a packet.
-#[derive(Clone, Copy)]
+#[derive(Clone, Copy, PartialEq, Eq, Debug)]
 pub(crate) enum Fate {
     Sent,
     Withheld,
-}
-
-fn is_for(slip: &Slip, switch: u16, number: u16) -> bool
-    ensures { result ≡ is_for switch number slip.now }
-{
-    slip.switch() == switch && slip.number() == number
 }
 
 // Where the slip for that packet stands, if it is at hand.
@@ -28,33 +22,28 @@ pub(crate) fn place(held: &[Slip], switch: u16, number: u16) -> Option<usize>
     ensures answer { result ≡ place_for switch number held.now }
     ensures within { IfSome result (λ i. i < length held.now) }
 {
-    for (i, slip) in held.iter().enumerate() {
-        if is_for(slip, switch, number) {
-            return Some(i);
-        }
-    }
-    None
+    held.iter()
+        .position(|slip| slip.switch() == switch && slip.number() == number)
 }
 
-// Hands in a slip that the hub is known to have out: its packet was sent.
-fn send<S: ActorStore>(hub: &mut Hub<S>, slip: Slip)
-    requires { is_ok (sent (hub_model S.ActorStore.meaning hub.old) slip.switch slip.number) ≡ true }
-    ensures { hub_model S.ActorStore.meaning hub.new ≡ hub_after (hub_model S.ActorStore.meaning hub.old) (sent (hub_model S.ActorStore.meaning hub.old) slip.switch slip.number) }
+// The hub's answer to a slip that it is known to have out.
+fn taken(answer: Result<(), (Fault, Slip)>)
+    requires { is_ok answer ≡ true }
 {
-    match hub.sent(slip) {
+    match answer {
         Ok(()) => {}
         Err(_) => unreachable(),
     }
 }
 
-// The same for a packet that was withheld.
-fn withhold<S: ActorStore>(hub: &mut Hub<S>, slip: Slip)
-    requires { is_ok (withheld (hub_model S.ActorStore.meaning hub.old) slip.switch slip.number) ≡ true }
-    ensures { hub_model S.ActorStore.meaning hub.new ≡ hub_after (hub_model S.ActorStore.meaning hub.old) (withheld (hub_model S.ActorStore.meaning hub.old) slip.switch slip.number) }
+// Hands in a slip that the hub is known to have out.
+fn spend<S: ActorStore>(hub: &mut Hub<S>, slip: Slip, fate: Fate)
+    requires { is_ok (handed_in fate (hub_model S.ActorStore.meaning hub.old) slip) ≡ true }
+    ensures { hub_model S.ActorStore.meaning hub.new ≡ hub_after (hub_model S.ActorStore.meaning hub.old) (handed_in fate (hub_model S.ActorStore.meaning hub.old) slip) }
 {
-    match hub.withheld(slip) {
-        Ok(()) => {}
-        Err(_) => unreachable(),
+    match fate {
+        Fate::Sent => taken(hub.sent(slip)),
+        Fate::Withheld => taken(hub.withheld(slip)),
     }
 }
 
@@ -66,10 +55,7 @@ pub(crate) fn hand_in<S: ActorStore>(hub: &mut Hub<S>, held: &mut Vec<Slip>, i: 
     ensures fewer { vec_len held.new + 1 ≡ vec_len held.old }
 {
     let slip = held.remove(i);
-    match fate {
-        Fate::Sent => send(hub, slip),
-        Fate::Withheld => withhold(hub, slip),
-    }
+    spend(hub, slip, fate);
 }
 
 // Keeps a slip with the others. Where memory is short, its packet is withheld.
@@ -84,7 +70,7 @@ pub(crate) fn keep<S: ActorStore>(
     match held.push(slip) {
         Ok(()) => Ok(()),
         Err(back) => {
-            withhold(hub, back.value);
+            spend(hub, back.value, Fate::Withheld);
             Err(AllocError)
         }
     }

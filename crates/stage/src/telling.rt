@@ -1,32 +1,52 @@
 // What a call told, on a line of its own.
-use fault::{Fault, Layer};
-use model::{Arrival, KeyPress, Mark};
+use fault::Fault;
+use model::{Arrival, KeyPress};
 use packet::PAYLOAD_MOST;
-use std::io;
+use std::{fmt, io};
 
-fn layer_name(layer: Layer) -> &'static str {
-    match layer {
-        Layer::Frame => "frame",
-        Layer::Message => "message",
-        Layer::Actor => "actor",
-        Layer::Store => "store",
-        Layer::Call => "call",
+// What became of a payload: what it was, and how many of its messages were understood.
+#[derive(Clone, Copy)]
+pub(crate) struct Taken {
+    pub(crate) arrival: Arrival,
+    pub(crate) count: usize,
+}
+
+impl fmt::Display for Taken {
+    fn fmt<W: fmt::Write>(&self, f: &mut fmt::Formatter<W>) -> fmt::Result {
+        let Taken { arrival, count } = *self;
+        write!(f, "{arrival} {count}")
     }
 }
 
-fn mark_name(mark: Mark) -> &'static str {
-    match mark {
-        Mark::Settled => "settled",
-        Mark::Due => "due",
-        Mark::UnderWay => "under way",
+// A key press, if there was one.
+#[derive(Clone, Copy)]
+pub(crate) struct LatestKey(pub(crate) Option<KeyPress>);
+
+impl fmt::Display for LatestKey {
+    fn fmt<W: fmt::Write>(&self, f: &mut fmt::Formatter<W>) -> fmt::Result {
+        match self.0 {
+            Some(KeyPress { actor, key }) => write!(f, "{actor} {key}"),
+            None => write!(f, "none"),
+        }
+    }
+}
+
+// A reading in tenths of a degree, if there is one.
+#[derive(Clone, Copy)]
+pub(crate) struct Reading(pub(crate) Option<i16>);
+
+impl fmt::Display for Reading {
+    fn fmt<W: fmt::Write>(&self, f: &mut fmt::Formatter<W>) -> fmt::Result {
+        match self.0 {
+            Some(tenths) => write!(f, "{tenths}"),
+            None => write!(f, "none"),
+        }
     }
 }
 
 pub(crate) fn tell_refusal(rt: &impl Print, fault: Fault) -> io::Result<()> {
-    let layer = layer_name(fault.layer());
-    let number = fault.number();
-    let place = fault.place();
-    println!(rt; "refused {layer} {number} {place}")
+    let layer = fault.layer();
+    println!(rt; "refused {layer} {fault}")
 }
 
 pub(crate) fn tell_done(rt: &impl Print, answer: Result<(), Fault>) -> io::Result<()> {
@@ -36,47 +56,13 @@ pub(crate) fn tell_done(rt: &impl Print, answer: Result<(), Fault>) -> io::Resul
     }
 }
 
-pub(crate) fn tell_arrival(
+// What a question or a payload brought.
+pub(crate) fn tell<T: fmt::Display + Drop>(
     rt: &impl Print,
-    answer: Result<(Arrival, usize), Fault>,
+    answer: Result<T, Fault>,
 ) -> io::Result<()> {
     match answer {
-        Ok((Arrival::Event, count)) => println!(rt; "ok event {count}"),
-        Ok((Arrival::Answer, count)) => println!(rt; "ok answer {count}"),
-        Ok((Arrival::Stale, count)) => println!(rt; "ok stale {count}"),
-        Err(fault) => tell_refusal(rt, fault),
-    }
-}
-
-pub(crate) fn tell_mark(rt: &impl Print, answer: Result<Mark, Fault>) -> io::Result<()> {
-    match answer {
-        Ok(mark) => {
-            let name = mark_name(mark);
-            println!(rt; "ok {name}")
-        }
-        Err(fault) => tell_refusal(rt, fault),
-    }
-}
-
-pub(crate) fn tell_flags(rt: &impl Print, answer: Result<u32, Fault>) -> io::Result<()> {
-    match answer {
-        Ok(flags) => println!(rt; "ok {flags}"),
-        Err(fault) => tell_refusal(rt, fault),
-    }
-}
-
-pub(crate) fn tell_key(rt: &impl Print, answer: Result<Option<KeyPress>, Fault>) -> io::Result<()> {
-    match answer {
-        Ok(Some(KeyPress { actor, key })) => println!(rt; "ok {actor} {key}"),
-        Ok(None) => rt.println("ok none"),
-        Err(fault) => tell_refusal(rt, fault),
-    }
-}
-
-pub(crate) fn tell_reading(rt: &impl Print, answer: Result<Option<i16>, Fault>) -> io::Result<()> {
-    match answer {
-        Ok(Some(tenths)) => println!(rt; "ok {tenths}"),
-        Ok(None) => rt.println("ok none"),
+        Ok(told) => println!(rt; "ok {told}"),
         Err(fault) => tell_refusal(rt, fault),
     }
 }

@@ -1,4 +1,4 @@
-use Rattle.std.proofs.Common.{◌-◌, take}
+use Rattle.std.proofs.Common.{take}
 use Rattle.hub.specs.Memory.{hub_model}
 use Rattle.stage.proofs.Out.{same_take}
 use Rattle.stage.proofs.calls.take.Goals as goal
@@ -6,4 +6,4 @@ use Rattle.stage.proofs.calls.take.Goals as goal
 pub returns : goal.returns
 returns g c =
     let m = g.S.ActorStore.meaning in
-    same_take (hub_model m c.args.hub.now) (hub_model m c.take.new.self) (take (c.in_ok-length.length - 0) c.decode.new.out) c.take.ensures.after
+    same_take (hub_model m c.args.hub.now) (hub_model m c.take.new.self) (take c.in_ok-length.length c.decode.new.out) c.take.ensures.after

@@ -1,14 +1,13 @@
-use Rattle.std.proofs.Common.{sym, ◌∙◌, arith}
-use Rattle.stage.proofs.Places.{place_found, place_more, place_none}
+use Rattle.std.proofs.Common.{sym, ◌∙◌, rules}
+use borrow.Author.Tests.{tests}
+use Rattle.std.proofs.lemmas.Iterator.{YieldsList-from_slice}
+use Rattle.std.proofs.lemmas.Iterator.Search.{position_from_yields_List}
+use Rattle.stage.specs.Slips.{is_for}
+use Rattle.stage.proofs.Places.{place_found}
 use Rattle.stage.proofs.slips.place.Goals as goal
 
-pub returns-then-is_for : goal.returns-then-is_for
-returns-then-is_for c =
-    let within = c.loop-i-test.true in
-    record { answer = sym (place_found c.args.switch c.args.number c.args.held.now c.loop-i.i _ within (sym c.if-is_for.ensures)) ∙ c.loop-i.invariant; within = within }
-
-pub loop-i-preserved : goal.loop-i-preserved
-loop-i-preserved c = sym (place_more c.args.switch c.args.number c.args.held.now c.loop-i.i _ c.loop-i-test.true (sym c.if-is_for.ensures)) ∙ c.loop-i.invariant
-
-pub returns : goal.returns
-returns c = record { answer = sym (place_none c.args.switch c.args.number c.args.held.now c.loop-i.i (omega arith)) ∙ c.loop-i.invariant; within = tt }
+pub returns-clause-answer : goal.returns-clause-answer
+returns-clause-answer c =
+    let s = c.args.held.now in
+    position_from_yields_List (is_for c.args.switch c.args.number) _ _ _ c.position.ensures.ran (YieldsList-from_slice s (cc)) (λ x b q k. search (rules, tests))
+    ∙ sym (place_found c.args.switch c.args.number s)
