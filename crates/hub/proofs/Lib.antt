@@ -3,3 +3,4 @@ pub mod Surveys
 pub mod Written
 pub mod Compositions
 pub mod Owed
+pub mod Refused
