@@ -1,13 +1,9 @@
 // A hub with two switches on a line of text: payloads in hexadecimal come in, one a line, and the packets that are then due go out.
 #![tactic(auto)]
 
-ghost use Rattle.std.specs.Prelude.{◌≡◌, true, is_ok};
-ghost use Rattle.model.specs.Composing.{sent};
-ghost use Rattle.hub.specs.Memory.{hub_model};
-
 use fault::Fault;
-use hexadecimal::Digits;
-use hub::{Composed, Hub, Slip};
+use hexadecimal::{Digits, Lines};
+use hub::{Composed, Hub};
 use model::{Arrival, Site};
 use packet::PAYLOAD_MOST;
 use std::io;
@@ -49,20 +45,10 @@ fn show_line<S: ActorStore>(rt: &impl Print, hub: &mut Hub<S>, line: &[u8]) -> i
 }
 
 fn show_lines<S: ActorStore>(rt: &impl Print, hub: &mut Hub<S>, text: &[u8]) -> io::Result<()> {
-    for line in hexadecimal::lines(text) {
+    for line in Lines::new(text) {
         show_line(rt, hub, line)?;
     }
     Ok(())
-}
-
-// Hands in a slip that the hub is known to have open.
-fn hand_in<S: ActorStore>(hub: &mut Hub<S>, slip: Slip)
-    requires { is_ok (sent (hub_model S.ActorStore.meaning hub.old) slip.switch slip.number) ≡ true }
-{
-    match hub.sent(slip) {
-        Ok(()) => {}
-        Err(_) => unreachable(),
-    }
 }
 
 // Composes for a switch and shows the packet. Its slip is handed in whether or not it could be shown.
@@ -81,7 +67,7 @@ fn tell_by<S: ActorStore>(
             },
         ) => {
             let shown = rt.println(Digits(&buf[..length]));
-            hand_in(hub, slip);
+            hub.sent(slip).unwrap();
             shown
         }
         Err(fault) => show_refusal(rt, fault),

@@ -15,7 +15,7 @@ use store::meaning::ActorStore;
 
 // Reads the payload that a text spells, and gives it to the hub.
 fn take<S: ActorStore>(hub: &mut Hub<S>, text: &[u8]) -> Result<Taken, Fault>
-    ensures { SameOut (hub_model S.ActorStore.meaning hub.old) (hub_model S.ActorStore.meaning hub.new) }
+    ensures { SameOut (hub_model S.meaning hub.old) (hub_model S.meaning hub.new) }
 {
     let mut payload = [0; PAYLOAD_MOST];
     let length = hexadecimal::decode(text, &mut payload)?;
@@ -31,8 +31,8 @@ fn compose<S: ActorStore>(
     switch: u16,
     buf: &mut [u8],
 ) -> io::Result<()>
-    requires { HoldsAll (hub_model S.ActorStore.meaning hub.old) held.old.items }
-    ensures { HoldsAll (hub_model S.ActorStore.meaning hub.new) held.new.items }
+    requires { HoldsAll (hub_model S.meaning hub.old) held.old.items }
+    ensures { HoldsAll (hub_model S.meaning hub.new) held.new.items }
 {
     match hub.compose(switch, buf) {
         Ok(
@@ -59,9 +59,9 @@ fn hand_in_for<S: ActorStore>(
     packet: (u16, u16),
     fate: Fate,
 ) -> io::Result<()>
-    requires { HoldsAll (hub_model S.ActorStore.meaning hub.old) held.old.items }
-    ensures all { HoldsAll (hub_model S.ActorStore.meaning hub.new) held.new.items }
-    ensures after { hub_model S.ActorStore.meaning hub.new ≡ handed_for fate (hub_model S.ActorStore.meaning hub.old) packet.0 packet.1 (place_for packet.0 packet.1 held.old.items) }
+    requires { HoldsAll (hub_model S.meaning hub.old) held.old.items }
+    ensures all { HoldsAll (hub_model S.meaning hub.new) held.new.items }
+    ensures after { hub_model S.meaning hub.new ≡ handed_for fate (hub_model S.meaning hub.old) packet.0 packet.1 (place_for packet.0 packet.1 held.old.items) }
 {
     match place(held.as_slice(), packet.0, packet.1) {
         Some(i) => {
@@ -74,7 +74,7 @@ fn hand_in_for<S: ActorStore>(
 
 // Settings, and what switches send: calls that open and close no slip.
 fn apply<S: ActorStore>(rt: &impl Print, hub: &mut Hub<S>, call: Call<'_>) -> io::Result<()>
-    ensures { SameOut (hub_model S.ActorStore.meaning hub.old) (hub_model S.ActorStore.meaning hub.new) }
+    ensures { SameOut (hub_model S.meaning hub.old) (hub_model S.meaning hub.new) }
 {
     match call {
         Call::Enrol { switch, actors } => tell_done(rt, hub.enrol(switch, actors.entries())),
@@ -98,9 +98,9 @@ pub(crate) fn make<S: ActorStore>(
     held: &mut Vec<Slip>,
     call: Call<'_>,
 ) -> io::Result<()>
-    requires { HoldsAll (hub_model S.ActorStore.meaning hub.old) held.old.items }
-    ensures all { HoldsAll (hub_model S.ActorStore.meaning hub.new) held.new.items }
-    ensures handed { HandsIn (said call.entry) held.old.items (hub_model S.ActorStore.meaning hub.old) (hub_model S.ActorStore.meaning hub.new) }
+    requires { HoldsAll (hub_model S.meaning hub.old) held.old.items }
+    ensures all { HoldsAll (hub_model S.meaning hub.new) held.new.items }
+    ensures handed { HandsIn (said call.entry) held.old.items (hub_model S.meaning hub.old) (hub_model S.meaning hub.new) }
 {
     match call {
         Call::Compose { switch, room } => {

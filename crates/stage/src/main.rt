@@ -32,8 +32,8 @@ fn make_all<S: ActorStore>(
     held: &mut Vec<Slip>,
     text: &[u8],
 ) -> io::Result<()>
-    requires { HoldsAll (hub_model S.ActorStore.meaning hub.old) held.old.items }
-    ensures { HoldsAll (hub_model S.ActorStore.meaning hub.new) held.new.items }
+    requires { HoldsAll (hub_model S.meaning hub.old) held.old.items }
+    ensures { HoldsAll (hub_model S.meaning hub.new) held.new.items }
 {
     for line in Lines::new(text) {
         if script::is_passed_over(line) {
@@ -53,7 +53,7 @@ fn withhold_rest<S: ActorStore>(
     hub: &mut Hub<S>,
     mut held: Vec<Slip>,
 ) -> io::Result<()>
-    requires { HoldsAll (hub_model S.ActorStore.meaning hub.old) held.items }
+    requires { HoldsAll (hub_model S.meaning hub.old) held.items }
 {
     let mut told = Ok(());
     while !held.is_empty() {
@@ -75,7 +75,7 @@ fn run<S: ActorStore + Drop>(
     mut hub: Hub<S>,
     text: &[u8],
 ) -> io::Result<()>
-    requires { HoldsAll (hub_model S.ActorStore.meaning hub) [] }
+    requires { HoldsAll (hub_model S.meaning hub) [] }
 {
     let mut held = Vec::new(heap);
     let made = make_all(rt, &mut hub, &mut held, text);

@@ -38,8 +38,8 @@ fn taken(answer: Result<(), (Fault, Slip)>)
 
 // Hands in a slip that the hub is known to have out.
 fn spend<S: ActorStore>(hub: &mut Hub<S>, slip: Slip, fate: Fate)
-    requires { is_ok (handed_in fate (hub_model S.ActorStore.meaning hub.old) slip) ≡ true }
-    ensures { hub_model S.ActorStore.meaning hub.new ≡ hub_after (hub_model S.ActorStore.meaning hub.old) (handed_in fate (hub_model S.ActorStore.meaning hub.old) slip) }
+    requires { is_ok (handed_in fate (hub_model S.meaning hub.old) slip) ≡ true }
+    ensures { hub_model S.meaning hub.new ≡ hub_after (hub_model S.meaning hub.old) (handed_in fate (hub_model S.meaning hub.old) slip) }
 {
     match fate {
         Fate::Sent => taken(hub.sent(slip)),
@@ -49,9 +49,9 @@ fn spend<S: ActorStore>(hub: &mut Hub<S>, slip: Slip, fate: Fate)
 
 // Hands in the slip at a place.
 pub(crate) fn hand_in<S: ActorStore>(hub: &mut Hub<S>, held: &mut Vec<Slip>, i: usize, fate: Fate)
-    requires { (HoldsAll (hub_model S.ActorStore.meaning hub.old) held.old.items) × (i < vec_len held.old) }
-    ensures all { HoldsAll (hub_model S.ActorStore.meaning hub.new) held.new.items }
-    ensures after { (d : Slip) → hub_model S.ActorStore.meaning hub.new ≡ hub_after (hub_model S.ActorStore.meaning hub.old) (handed_in fate (hub_model S.ActorStore.meaning hub.old) (slice_index_or held.old.items i d)) }
+    requires { (HoldsAll (hub_model S.meaning hub.old) held.old.items) × (i < vec_len held.old) }
+    ensures all { HoldsAll (hub_model S.meaning hub.new) held.new.items }
+    ensures after { (d : Slip) → hub_model S.meaning hub.new ≡ hub_after (hub_model S.meaning hub.old) (handed_in fate (hub_model S.meaning hub.old) (slice_index_or held.old.items i d)) }
     ensures fewer { vec_len held.new + 1 ≡ vec_len held.old }
 {
     let slip = held.remove(i);
@@ -64,8 +64,8 @@ pub(crate) fn keep<S: ActorStore>(
     held: &mut Vec<Slip>,
     slip: Slip,
 ) -> Result<(), AllocError>
-    requires { HoldsAll (hub_model S.ActorStore.meaning hub.old) (held.old.items ++ slip ∷ []) }
-    ensures { HoldsAll (hub_model S.ActorStore.meaning hub.new) held.new.items }
+    requires { HoldsAll (hub_model S.meaning hub.old) (held.old.items ++ slip ∷ []) }
+    ensures { HoldsAll (hub_model S.meaning hub.new) held.new.items }
 {
     match held.push(slip) {
         Ok(()) => Ok(()),

@@ -1,20 +1,7 @@
 // Sending, as a program does it: a packet is composed, and its slip is handed in.
-ghost use Rattle.std.specs.Prelude.{◌≡◌, true, is_ok};
-ghost use Rattle.model.specs.Composing.{sent};
-ghost use Rattle.hub.specs.Memory.{hub_model};
-
 use fault::Fault;
-use hub::{Composed, Hub, Slip};
+use hub::{Composed, Hub};
 use store::meaning::ActorStore;
-
-fn hand_in<S: ActorStore>(hub: &mut Hub<S>, slip: Slip)
-    requires { is_ok (sent (hub_model S.ActorStore.meaning hub.old) slip.switch slip.number) ≡ true }
-{
-    match hub.sent(slip) {
-        Ok(()) => {}
-        Err(_) => unreachable(),
-    }
-}
 
 // The packet's length, how many actors it carries, and its number.
 pub(crate) fn send<S: ActorStore>(
@@ -28,6 +15,6 @@ pub(crate) fn send<S: ActorStore>(
         slip,
     } = hub.compose(id, buf)?;
     let number = slip.number();
-    hand_in(hub, slip);
+    hub.sent(slip).unwrap();
     Ok((length, actors, number))
 }
