@@ -5,7 +5,7 @@ ghost use Rattle.script.specs.Actors.{actors_in};
 use arrayvec::ArrayVec;
 
 // There is room for one more than any call takes.
-#[derive(PartialEq, Eq, Debug, Drop)]
+#[derive(Clone, PartialEq, Eq, Debug, Drop)]
 pub struct Actors {
     pub(crate) entries: ArrayVec<u16, 257>,
 }

@@ -49,6 +49,7 @@ pub(crate) fn tell_refusal(rt: &impl Print, fault: Fault) -> io::Result<()> {
     println!(rt; "refused {layer} {fault}")
 }
 
+// A call that brings nothing more: `ok` ends its line, with no space behind it, so that `tell` does not fit.
 pub(crate) fn tell_done(rt: &impl Print, answer: Result<(), Fault>) -> io::Result<()> {
     match answer {
         Ok(()) => rt.println("ok"),
