@@ -44,6 +44,19 @@ fn write_actor<S: ActorStore>(store: &S, actor: u16, draft: Draft, buf: &mut [u8
     add(draft, buf, Record::EditValue { actor, target })
 }
 
+// Adds what an item's actor has to be told, if the item is outstanding.
+fn write_item<S: ActorStore>(store: &S, item: Item, draft: Draft, buf: &mut [u8]) -> Draft
+    requires named { (item.actor == 0) ≡ false }
+    requires room { HasRoom draft buf.old (if is_outstanding item.mark then 12 else 0) }
+    ensures { Wrote draft buf.old (if is_outstanding item.mark then actor_records (S.meaning store.now) item.actor else []) result buf.new }
+{
+    if item.mark.is_outstanding() {
+        write_actor(store, item.actor, draft, buf)
+    } else {
+        draft
+    }
+}
+
 // Adds what the outstanding actors have to be told, in list order.
 fn write_items<S: ActorStore>(store: &S, items: &[Item], mut draft: Draft, buf: &mut [u8]) -> Draft
     requires named { all_named items.now ≡ true }
@@ -51,9 +64,7 @@ fn write_items<S: ActorStore>(store: &S, items: &[Item], mut draft: Draft, buf: 
     ensures { Wrote draft buf.old (item_records (S.meaning store.now) items.now) result buf.new }
 {
     for item in items {
-        if item.mark.is_outstanding() {
-            draft = write_actor(store, item.actor, draft, buf);
-        }
+        draft = write_item(store, *item, draft, buf);
     }
     draft
 }
