@@ -1,4 +1,5 @@
 // Writing a packet for a switch: its outstanding actors in list order, and last its control word.
+// A draft is plain numbers and the buffer is the caller's, so both are passed at each call; `HasRoom` says what a call needs of the two.
 ghost use Rattle.std.specs.Prelude.{◌≡◌, ◌+◌, ◌*◌, ◌≤◌, true, false, [], ◌∷◌, ◌++◌, length, drop, IsOk, if◌then◌else◌, FitsSigned, ◌==◌};
 ghost use Rattle.std.specs.Int.{w16};
 ghost use Rattle.packet.specs.declared.records.Record.TheVariants.{Control};

@@ -1,4 +1,4 @@
-use Rattle.std.proofs.Common.{◌+◌, cond, List, [], get_or, take, sym, subst, arith}
+use Rattle.std.proofs.Common.{cond, List, [], get_or, take, sym, subst, arith}
 use Rattle.std.proofs.lemmas.List.{take_all}
 use Rattle.packet.specs.declared.records.Record.{Record}
 use Rattle.model.specs.declared.item.Item.{Item}
