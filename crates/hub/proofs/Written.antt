@@ -2,7 +2,7 @@
 use Rattle.std.proofs.Common.{◌≡◌, ℕ, zero, suc, ◌+◌, ◌*◌, ◌<◌, ◌≤◌, Bool, true, false, cond, not, eqb, ltb, List, [], ◌∷◌, ◌++◌, length, get_or, take, drop, IfOk, Ok, Result, sym, refl, ap, ◌∙◌, subst, ap₂, append_assoc, append-nil, arith}
 use Rattle.std.proofs.lemmas.List.{drop-drop, length-append, take-append-drop, take_more}
 use Rattle.std.proofs.lemmas.Slice.{drop-put_mid}
-use Rattle.std.proofs.lemmas.Bool.{and_parts, cond-false, cond-true, not-true}
+use Rattle.std.proofs.lemmas.Bool.{and_parts, cond-false, not-true}
 use Rattle.std.specs.List.{flat_map}
 use Rattle.fault.specs.declared.Fault.{Fault}
 use Rattle.packet.specs.declared.drafting.Closed.{Closed}
@@ -117,13 +117,17 @@ module _ (xs : List Item) (i : ℕ) (d : Item) (h : i < length xs) where
   pub items_more : (st : Known) → item_records st (take (i + 1) xs) ≡ item_records st (take i xs) ++ cond (is_outstanding (get_or xs i d).mark) (actor_records st (get_or xs i d).actor) []
   items_more st = ap (item_records st) (take_more xs i d h) ∙ items_append st (take i xs) (get_or xs i d ∷ []) ∙ ap (λ (l : List Record). item_records st (take i xs) ++ l) (one_item st (get_or xs i d))
 
-  -- an outstanding item counts beside those before it
-  pub actors_room : is_outstanding (get_or xs i d).mark ≡ true → outstanding_actors (take i xs) + 1 ≤ outstanding_actors xs
-  actors_room t =
+  -- what an item takes, beside what those before it take
+  pub actors_room : 12 * outstanding_actors (take i xs) + cond (is_outstanding (get_or xs i d).mark) 12 0 ≤ 12 * outstanding_actors xs
+  actors_room =
       let split = sym (ap outstanding_actors (take-append-drop (i + 1) xs)) ∙ actors_append (take (i + 1) xs) (drop (i + 1) xs) in
-      let front = ap outstanding_actors (take_more xs i d h) ∙ actors_append (take i xs) (get_or xs i d ∷ []) in
-      let one = one_actor (get_or xs i d) ∙ cond-true _ _ _ t in
+      let front = ap outstanding_actors (take_more xs i d h) ∙ actors_append (take i xs) (get_or xs i d ∷ []) ∙ ap (λ n. outstanding_actors (take i xs) + n) (one_actor (get_or xs i d)) in
+      let each = twelve (is_outstanding (get_or xs i d).mark) in
       omega arith
+    where
+      twelve : (b : Bool) → cond b 12 0 ≡ 12 * cond b 1 0
+      twelve true = refl
+      twelve false = refl
 
   pub item_named : all_named xs ≡ true → eqb (get_or xs i d).actor 0 ≡ false
   item_named e = named xs i h e

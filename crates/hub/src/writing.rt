@@ -1,4 +1,5 @@
 // Writing a packet for a switch: its outstanding actors in list order, and last its control word.
+// A draft is plain numbers and the buffer is the caller's, so both are passed at each call; `HasRoom` says what a call needs of the two.
 ghost use Rattle.std.specs.Prelude.{◌≡◌, ◌+◌, ◌*◌, ◌≤◌, true, false, [], ◌∷◌, ◌++◌, length, drop, IsOk, if◌then◌else◌, FitsSigned, ◌==◌};
 ghost use Rattle.std.specs.Int.{w16};
 ghost use Rattle.packet.specs.declared.records.Record.TheVariants.{Control};
@@ -44,6 +45,19 @@ fn write_actor<S: ActorStore>(store: &S, actor: u16, draft: Draft, buf: &mut [u8
     add(draft, buf, Record::EditValue { actor, target })
 }
 
+// Adds what an item's actor has to be told, if the item is outstanding.
+fn write_item<S: ActorStore>(store: &S, item: Item, draft: Draft, buf: &mut [u8]) -> Draft
+    requires named { (item.actor == 0) ≡ false }
+    requires room { HasRoom draft buf.old (if is_outstanding item.mark then 12 else 0) }
+    ensures { Wrote draft buf.old (if is_outstanding item.mark then actor_records (S.meaning store.now) item.actor else []) result buf.new }
+{
+    if item.mark.is_outstanding() {
+        write_actor(store, item.actor, draft, buf)
+    } else {
+        draft
+    }
+}
+
 // Adds what the outstanding actors have to be told, in list order.
 fn write_items<S: ActorStore>(store: &S, items: &[Item], mut draft: Draft, buf: &mut [u8]) -> Draft
     requires named { all_named items.now ≡ true }
@@ -51,9 +65,7 @@ fn write_items<S: ActorStore>(store: &S, items: &[Item], mut draft: Draft, buf: 
     ensures { Wrote draft buf.old (item_records (S.meaning store.now) items.now) result buf.new }
 {
     for item in items {
-        if item.mark.is_outstanding() {
-            draft = write_actor(store, item.actor, draft, buf);
-        }
+        draft = write_item(store, *item, draft, buf);
     }
     draft
 }
