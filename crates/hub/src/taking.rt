@@ -67,7 +67,8 @@ fn next_message(cursor: &mut Cursor<'_>) -> Option<Message>
     ensures moves { OnSome result ((cursor.old.place < cursor.new.place) × (cursor.new.place ≤ length cursor.old.payload.now)) }
     ensures walked { Heard cursor.old.payload.now cursor.old.place cursor.new.place result }
 {
-    cursor.next().unwrap().map(|(_, message)| message)
+    let (_, message) = cursor.next().unwrap()?;
+    Some(message)
 }
 
 impl<S: ActorStore> Hub<S> {
