@@ -10,7 +10,7 @@ ghost use Rattle.model.specs.Composing.{actor_records, item_records, outstanding
 ghost use Rattle.model.specs.Marks.{is_outstanding};
 ghost use Rattle.switch.specs.Items.{all_named};
 ghost use Rattle.hub.specs.Compositions.{packet_length};
-ghost use Rattle.hub.specs.Writing.{Began, HasRoom, Finished, Wrote};
+ghost use Rattle.hub.specs.Writing.{Began, Finished, HasRoom, Wrote};
 
 use model::{Item, Mark};
 use packet::{Descriptor, Draft, Record};
@@ -29,7 +29,8 @@ fn add(draft: Draft, buf: &mut [u8], record: Record) -> Draft
 // Both values of an actor.
 fn values<S: ActorStore>(store: &S, actor: u16) -> (i16, i16)
     ensures answer { result ≡ values_of (S.meaning store.now actor) }
-    ensures fits { FitsSigned w16 result.0 × FitsSigned w16 result.1 }
+    ensures actual_fits { FitsSigned w16 result.0 }
+    ensures target_fits { FitsSigned w16 result.1 }
 {
     store.read(actor).unwrap_or((0, 0))
 }
