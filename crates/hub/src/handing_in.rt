@@ -1,5 +1,5 @@
 // Handing a slip in: the packet was sent, or it was withheld.
-ghost use Rattle.std.specs.Prelude.{◌≡◌, true, false, IfOk, IfErr, OnErr};
+ghost use Rattle.std.specs.Prelude.{◌≡◌, true, false, IfOk, IfErr, OnOk, OnErr};
 ghost use Rattle.model.specs.Composing.{sent as sent_step, withheld as withheld_step};
 ghost use Rattle.model.specs.Models.{hub_after};
 ghost use Rattle.hub.specs.Memory.{hub_model};
@@ -21,7 +21,8 @@ impl<S: ActorStore> Hub<S> {
 
     // Spends a slip that is owed, and tells its switch. One that is not owed is handed back.
     fn redeem(&self, slip: Slip) -> Result<u16, (Fault, Slip)>
-        ensures owed { IfOk result (λ id. (id ≡ slip.switch) × (owed (hub_model S.meaning self.now) slip ≡ true)) }
+        ensures switch { IfOk result (λ id. id ≡ slip.switch) }
+        ensures owed { OnOk result (owed (hub_model S.meaning self.now) slip ≡ true) }
         ensures not_owed { OnErr result (owed (hub_model S.meaning self.now) slip ≡ false) }
         ensures handed_back { IfErr result (λ e. e ≡ (Fault.Call CallFault.NoSlip 0, slip)) }
     {

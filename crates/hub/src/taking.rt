@@ -64,10 +64,12 @@ fn check_messages(switch: &Switch, payload: &[u8]) -> Result<Survey, Fault>
 fn next_message(cursor: &mut Cursor<'_>) -> Option<Message>
     requires { is_ok (messages_from cursor.old.payload.now cursor.old.place) ≡ true }
     ensures payload { cursor.new.payload.now ≡ cursor.old.payload.now }
-    ensures moves { OnSome result ((cursor.old.place < cursor.new.place) × (cursor.new.place ≤ length cursor.old.payload.now)) }
+    ensures moves { OnSome result (cursor.old.place < cursor.new.place) }
+    ensures within { OnSome result (cursor.new.place ≤ length cursor.old.payload.now) }
     ensures walked { Heard cursor.old.payload.now cursor.old.place cursor.new.place result }
 {
-    cursor.next().unwrap().map(|(_, message)| message)
+    let (_, message) = cursor.next().unwrap()?;
+    Some(message)
 }
 
 impl<S: ActorStore> Hub<S> {

@@ -1,5 +1,6 @@
 // Writing a packet for a switch: its outstanding actors in list order, and last its control word.
-// A draft is plain numbers and the buffer is the caller's, so both are passed at each call; `HasRoom` says what a call needs of the two.
+// A draft and its buffer are passed at each call, and `HasRoom` says what a call needs of the two: a struct of both, handed from call
+// to call, would need a starred clause in each to say that its buffer is still the caller's.
 ghost use Rattle.std.specs.Prelude.{◌≡◌, ◌+◌, ◌*◌, ◌≤◌, true, false, [], ◌∷◌, ◌++◌, length, drop, IsOk, if◌then◌else◌, FitsSigned, ◌==◌};
 ghost use Rattle.std.specs.Int.{w16};
 ghost use Rattle.packet.specs.declared.records.Record.TheVariants.{Control};
@@ -10,7 +11,7 @@ ghost use Rattle.model.specs.Composing.{actor_records, item_records, outstanding
 ghost use Rattle.model.specs.Marks.{is_outstanding};
 ghost use Rattle.switch.specs.Items.{all_named};
 ghost use Rattle.hub.specs.Compositions.{packet_length};
-ghost use Rattle.hub.specs.Writing.{Began, HasRoom, Finished, Wrote};
+ghost use Rattle.hub.specs.Writing.{Began, Finished, HasRoom, Wrote};
 
 use model::{Item, Mark};
 use packet::{Descriptor, Draft, Record};
@@ -29,7 +30,8 @@ fn add(draft: Draft, buf: &mut [u8], record: Record) -> Draft
 // Both values of an actor.
 fn values<S: ActorStore>(store: &S, actor: u16) -> (i16, i16)
     ensures answer { result ≡ values_of (S.meaning store.now actor) }
-    ensures fits { FitsSigned w16 result.0 × FitsSigned w16 result.1 }
+    ensures actual_fits { FitsSigned w16 result.0 }
+    ensures target_fits { FitsSigned w16 result.1 }
 {
     store.read(actor).unwrap_or((0, 0))
 }
