@@ -6,7 +6,7 @@ use std::marker::Model;
 // How many actors a switch lists at most.
 pub const MOST_ACTORS: usize = 64;
 
-#[derive(Drop)]
+#[derive(Clone, Drop)]
 pub struct Switch {
     pub(crate) id: u16,
     pub(crate) items: ArrayVec<Item, MOST_ACTORS>,
