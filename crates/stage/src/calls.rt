@@ -45,16 +45,15 @@ fn apply<S: ActorStore>(rt: &impl Print, hub: &mut Hub<S>, call: Call<'_>) -> io
 }
 
 impl<S: ActorStore> Desk<S> {
-    // Composes into a buffer, and keeps the slip. Until it is kept, the hub has one slip more out than are held.
+    // Composes into a buffer, and keeps the slip.
     fn compose(&mut self, rt: &impl Print, switch: u16, buf: &mut [u8]) -> io::Result<()> {
         match self.hub.compose(switch, buf) {
-            Ok(
-                Composed {
+            Ok(composed) => {
+                let Composed {
                     length,
                     actors,
                     slip,
-                },
-            ) => {
+                } = composed;
                 let number = slip.number();
                 keep(&mut self.hub, &mut self.held, slip)?;
                 let digits = Digits(&buf[..length]);

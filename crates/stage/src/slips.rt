@@ -4,7 +4,6 @@ ghost use Rattle.model.specs.Models.{hub_after};
 ghost use Rattle.hub.specs.Memory.{hub_model};
 ghost use Rattle.stage.specs.Slips.{HoldsAll, handed_in, place_for};
 
-use fault::Fault;
 use hub::{Hub, Slip};
 use std::alloc::AllocError;
 use store::meaning::ActorStore;
@@ -25,28 +24,19 @@ pub(crate) fn place(held: &[Slip], switch: u16, number: u16) -> Option<usize>
         .position(|slip| slip.switch() == switch && slip.number() == number)
 }
 
-// The hub's answer to a slip that it is known to have out.
-fn taken(answer: Result<(), (Fault, Slip)>)
-    requires accepted { is_ok answer ≡ true }
-{
-    match answer {
-        Ok(()) => {}
-        Err(_) => unreachable(),
-    }
-}
-
 // Hands in a slip that the hub is known to have out.
 pub(crate) fn spend<S: ActorStore>(hub: &mut Hub<S>, slip: Slip, fate: Fate)
     requires owed { is_ok (handed_in fate (hub_model S.meaning hub.old) slip) ≡ true }
     ensures { hub_model S.meaning hub.new ≡ hub_after (hub_model S.meaning hub.old) (handed_in fate (hub_model S.meaning hub.old) slip) }
 {
     match fate {
-        Fate::Sent => taken(hub.sent(slip)),
-        Fate::Withheld => taken(hub.withheld(slip)),
+        Fate::Sent => hub.sent(slip).unwrap(),
+        Fate::Withheld => hub.withheld(slip).unwrap(),
     }
 }
 
-// Keeps a slip with the others. Where memory is short, its packet is withheld.
+// Keeps a slip with the others. Where memory is short, its packet is withheld. By the two fields of a `Desk`,
+// whose fact does not hold until the slip is kept.
 pub(crate) fn keep<S: ActorStore>(
     hub: &mut Hub<S>,
     held: &mut Vec<Slip>,
