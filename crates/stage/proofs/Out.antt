@@ -254,11 +254,18 @@ module _ (h : HubModel) (a b : List Slip) (x : Slip) (all : HoldsAll h (a ++ x �
 pub holds_as : (h g : HubModel) (xs ys : List Slip) → g ≡ h → ys ≡ xs → HoldsAll h xs → HoldsAll g ys
 holds_as h g xs ys e q all s = ap (numbers_for s) q ∙ all s ∙ ap (λ (k : HubModel). option_to_list (slip_out k s)) (sym e)
 
--- the slips around the one at a place
-pub holds_around : (h : HubModel) (xs : List Slip) (i : ℕ) (x : Slip) → i < length xs → x ≡ get_or xs i x → HoldsAll h xs → HoldsAll h (take i xs ++ x ∷ drop (suc i) xs)
-holds_around h xs i x l e =
-    holds_as h h xs (take i xs ++ x ∷ drop (suc i) xs) refl
-    (ap (λ (y : Slip). take i xs ++ y ∷ drop (suc i) xs) e ∙ ap (λ (ys : List Slip). take i xs ++ ys) (sym (drop-cons xs i x l)) ∙ take-append-drop i xs)
+-- the slip at a place, among the others
+module _ (h : HubModel) (xs : List Slip) (i : ℕ) (x : Slip) (l : i < length xs) (e : x ≡ get_or xs i x) (all : HoldsAll h xs) where
+  holds_around : HoldsAll h (take i xs ++ x ∷ drop (suc i) xs)
+  holds_around =
+      holds_as h h xs (take i xs ++ x ∷ drop (suc i) xs) refl
+      (ap (λ (y : Slip). take i xs ++ y ∷ drop (suc i) xs) e ∙ ap (λ (ys : List Slip). take i xs ++ ys) (sym (drop-cons xs i x l)) ∙ take-append-drop i xs) all
+
+  pub owed_at : (fate : Fate) → is_ok (handed_in fate h x) ≡ true
+  owed_at = owed h (take i xs) (drop (suc i) xs) x holds_around
+
+  pub left_at : (fate : Fate) → HoldsAll (hub_after h (handed_in fate h x)) (take i xs ++ drop (suc i) xs)
+  left_at = left h (take i xs) (drop (suc i) xs) x holds_around
 
 -- A call that opens and closes no slip, by what it leaves.
 

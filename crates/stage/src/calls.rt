@@ -2,12 +2,14 @@
 ghost use Rattle.std.specs.Prelude.{◌≡◌};
 ghost use Rattle.hub.specs.Memory.{hub_model};
 ghost use Rattle.script.specs.Calls.{said};
-ghost use Rattle.stage.specs.Slips.{HandsIn, HoldsAll, SameOut, handed_for, place_for};
+ghost use Rattle.stage.specs.Slips.{HandsIn, SameOut, handed_for, place_for};
 
-use crate::slips::{Fate, hand_in, keep, place};
-use crate::telling::{LatestKey, Reading, Taken, tell, tell_done, tell_packet, tell_refusal};
+use crate::desk::Desk;
+use crate::slips::{Fate, keep, place};
+use crate::telling::{LatestKey, Reading, Taken, tell, tell_done, tell_refusal};
 use fault::Fault;
-use hub::{Composed, Hub, Slip};
+use hexadecimal::Digits;
+use hub::{Composed, Hub};
 use packet::PAYLOAD_MOST;
 use script::Call;
 use std::io;
@@ -19,57 +21,8 @@ fn take<S: ActorStore>(hub: &mut Hub<S>, text: &[u8]) -> Result<Taken, Fault>
 {
     let mut payload = [0; PAYLOAD_MOST];
     let length = hexadecimal::decode(text, &mut payload)?;
-    let (arrival, count) = hub.take(&payload[..length])?;
-    Ok(Taken { arrival, count })
-}
-
-// Composes into a buffer, and keeps the slip.
-fn compose<S: ActorStore>(
-    rt: &impl Print,
-    hub: &mut Hub<S>,
-    held: &mut Vec<Slip>,
-    switch: u16,
-    buf: &mut [u8],
-) -> io::Result<()>
-    requires { HoldsAll (hub_model S.meaning hub.old) held.old.items }
-    ensures { HoldsAll (hub_model S.meaning hub.new) held.new.items }
-{
-    match hub.compose(switch, buf) {
-        Ok(
-            Composed {
-                length,
-                actors,
-                slip,
-            },
-        ) => {
-            let number = slip.number();
-            keep(hub, held, slip)?;
-            print!(rt; "ok {switch} {length} {actors} {number} ")?;
-            tell_packet(rt, &buf[0..length])
-        }
-        Err(fault) => tell_refusal(rt, fault),
-    }
-}
-
-// Hands in the slip for a packet, if it is at hand.
-fn hand_in_for<S: ActorStore>(
-    rt: &impl Print,
-    hub: &mut Hub<S>,
-    held: &mut Vec<Slip>,
-    packet: (u16, u16),
-    fate: Fate,
-) -> io::Result<()>
-    requires { HoldsAll (hub_model S.meaning hub.old) held.old.items }
-    ensures all { HoldsAll (hub_model S.meaning hub.new) held.new.items }
-    ensures after { hub_model S.meaning hub.new ≡ handed_for fate (hub_model S.meaning hub.old) packet.0 packet.1 (place_for packet.0 packet.1 held.old.items) }
-{
-    match place(held.as_slice(), packet.0, packet.1) {
-        Some(i) => {
-            hand_in(hub, held, i, fate);
-            rt.println("ok")
-        }
-        None => rt.println("no slip"),
-    }
+    hub.take(&payload[..length])
+        .map(|(arrival, count)| Taken { arrival, count })
 }
 
 // Settings, and what switches send: calls that open and close no slip.
@@ -91,26 +44,58 @@ fn apply<S: ActorStore>(rt: &impl Print, hub: &mut Hub<S>, call: Call<'_>) -> io
     }
 }
 
-// Makes a call. A hub is opened once: a second `open` is no call.
-pub(crate) fn make<S: ActorStore>(
-    rt: &impl Print,
-    hub: &mut Hub<S>,
-    held: &mut Vec<Slip>,
-    call: Call<'_>,
-) -> io::Result<()>
-    requires { HoldsAll (hub_model S.meaning hub.old) held.old.items }
-    ensures all { HoldsAll (hub_model S.meaning hub.new) held.new.items }
-    ensures handed { HandsIn (said call.entry) held.old.items (hub_model S.meaning hub.old) (hub_model S.meaning hub.new) }
-{
-    match call {
-        Call::Compose { switch, room } => {
-            let mut buf = [0; PAYLOAD_MOST];
-            compose(rt, hub, held, switch, &mut buf[0..room.min(PAYLOAD_MOST)])
+impl<S: ActorStore> Desk<S> {
+    // Composes into a buffer, and keeps the slip.
+    fn compose(&mut self, rt: &impl Print, switch: u16, buf: &mut [u8]) -> io::Result<()> {
+        match self.hub.compose(switch, buf) {
+            Ok(composed) => {
+                let Composed {
+                    length,
+                    actors,
+                    slip,
+                } = composed;
+                let number = slip.number();
+                keep(&mut self.hub, &mut self.held, slip)?;
+                let digits = Digits(&buf[..length]);
+                println!(rt; "ok {switch} {length} {actors} {number} {digits}")
+            }
+            Err(fault) => tell_refusal(rt, fault),
         }
-        Call::Sent { switch, number } => hand_in_for(rt, hub, held, (switch, number), Fate::Sent),
-        Call::Withheld { switch, number } => {
-            hand_in_for(rt, hub, held, (switch, number), Fate::Withheld)
+    }
+
+    // Hands in the slip for a packet, if it is at hand.
+    fn hand_in_for(
+        &mut self,
+        rt: &impl Print,
+        switch: u16,
+        number: u16,
+        fate: Fate,
+    ) -> io::Result<()>
+        ensures { hub_model S.meaning self.new.hub ≡ handed_for fate (hub_model S.meaning self.old.hub) switch number (place_for switch number self.old.held.items) }
+    {
+        match place(self.held.as_slice(), switch, number) {
+            Some(i) => {
+                self.hand_in(i, fate);
+                rt.println("ok")
+            }
+            None => rt.println("no slip"),
         }
-        _ => apply(rt, hub, call),
+    }
+
+    // Makes a call. A hub is opened once: a second `open` is no call.
+    pub(crate) fn make(&mut self, rt: &impl Print, call: Call<'_>) -> io::Result<()>
+        ensures { HandsIn (said call.entry) self.old.held.items (hub_model S.meaning self.old.hub) (hub_model S.meaning self.new.hub) }
+    {
+        match call {
+            Call::Compose { switch, room } => {
+                let mut buf = [0; PAYLOAD_MOST];
+                self.compose(rt, switch, &mut buf[..room.min(PAYLOAD_MOST)])
+            }
+            Call::Sent { switch, number } => self.hand_in_for(rt, switch, number, Fate::Sent),
+            Call::Withheld { switch, number } => {
+                self.hand_in_for(rt, switch, number, Fate::Withheld)
+            }
+            _ => apply(rt, &mut self.hub, call),
+        }
     }
 }

@@ -1,23 +1,19 @@
 // A stage for a hub: a script of calls comes in, one a line, and what each call told goes out.
 #![tactic(auto)]
 
-ghost use Rattle.std.specs.Prelude.{[]};
-ghost use Rattle.hub.specs.Memory.{hub_model};
-ghost use Rattle.stage.specs.Slips.{HoldsAll};
-
 mod calls;
+mod desk;
 mod slips;
 mod telling;
 
-use calls::make;
+use desk::Desk;
 use fault::Fault;
 use hexadecimal::Lines;
-use hub::{Hub, Slip};
+use hub::Hub;
 use image::block::Image;
 use model::Site;
 use packet::PAYLOAD_MOST;
 use script::{Call, Store};
-use slips::{Fate, hand_in};
 use std::alloc::Global;
 use std::io;
 use std::io::Read;
@@ -26,60 +22,23 @@ use store::table::Table;
 use telling::tell_refusal;
 
 // Makes the calls of a script, up to its end.
-fn make_all<S: ActorStore>(
-    rt: &impl Print,
-    hub: &mut Hub<S>,
-    held: &mut Vec<Slip>,
-    text: &[u8],
-) -> io::Result<()>
-    requires { HoldsAll (hub_model S.meaning hub.old) held.old.items }
-    ensures { HoldsAll (hub_model S.meaning hub.new) held.new.items }
-{
+fn make_all<S: ActorStore>(rt: &impl Print, desk: &mut Desk<S>, text: &[u8]) -> io::Result<()> {
     for line in Lines::new(text) {
         if script::is_passed_over(line) {
             continue;
         }
         match script::parse(line) {
-            Some(call) => make(rt, hub, held, call)?,
+            Some(call) => desk.make(rt, call)?,
             None => rt.println("unknown")?,
         }
     }
     Ok(())
 }
 
-// Hands in the slips that are still out, oldest first: their packets were never sent.
-fn withhold_rest<S: ActorStore>(
-    rt: &impl Print,
-    hub: &mut Hub<S>,
-    mut held: Vec<Slip>,
-) -> io::Result<()>
-    requires { HoldsAll (hub_model S.meaning hub.old) held.items }
-{
-    let mut told = Ok(());
-    while !held.is_empty() {
-        let switch = held.as_slice()[0].switch();
-        let number = held.as_slice()[0].number();
-        hand_in(hub, &mut held, 0, Fate::Withheld);
-        if told.is_ok() {
-            told = println!(rt; "withheld {switch} {number}");
-        }
-    }
-    held.destroy_empty();
-    told
-}
-
 // Runs the script behind its `open` on the hub that was opened. No slip is lost, whatever could be shown.
-fn run<S: ActorStore + Drop>(
-    rt: &impl Print,
-    heap: Global,
-    mut hub: Hub<S>,
-    text: &[u8],
-) -> io::Result<()>
-    requires { HoldsAll (hub_model S.meaning hub) [] }
-{
-    let mut held = Vec::new(heap);
-    let made = make_all(rt, &mut hub, &mut held, text);
-    let told = withhold_rest(rt, &mut hub, held);
+fn run<S: ActorStore + Drop>(rt: &impl Print, mut desk: Desk<S>, text: &[u8]) -> io::Result<()> {
+    let made = make_all(rt, &mut desk, text);
+    let told = desk.withhold_rest(rt);
     made?;
     told
 }
@@ -102,7 +61,7 @@ fn open_over<S: ActorStore + Drop>(
     match Hub::open(store, site) {
         Ok(hub) => {
             rt.println("ok")?;
-            run(rt, heap, hub, rest)?;
+            run(rt, Desk::new(hub, heap), rest)?;
             Ok(Begun::Ran)
         }
         Err(back) => {

@@ -1,11 +1,9 @@
 // The slips that are out: kept until the script hands them in.
-ghost use Rattle.std.specs.Prelude.{◌≡◌, ◌+◌, ◌<◌, true, [], ◌∷◌, ◌++◌, length, IfSome, is_ok, vec_len, slice_index_or};
+ghost use Rattle.std.specs.Prelude.{◌≡◌, ◌<◌, true, [], ◌∷◌, ◌++◌, length, IfSome, is_ok};
 ghost use Rattle.model.specs.Models.{hub_after};
 ghost use Rattle.hub.specs.Memory.{hub_model};
-ghost use Rattle.hub.specs.declared.slip.Slip.{Slip};
 ghost use Rattle.stage.specs.Slips.{HoldsAll, handed_in, place_for};
 
-use fault::Fault;
 use hub::{Hub, Slip};
 use std::alloc::AllocError;
 use store::meaning::ActorStore;
@@ -26,45 +24,25 @@ pub(crate) fn place(held: &[Slip], switch: u16, number: u16) -> Option<usize>
         .position(|slip| slip.switch() == switch && slip.number() == number)
 }
 
-// The hub's answer to a slip that it is known to have out.
-fn taken(answer: Result<(), (Fault, Slip)>)
-    requires { is_ok answer ≡ true }
-{
-    match answer {
-        Ok(()) => {}
-        Err(_) => unreachable(),
-    }
-}
-
 // Hands in a slip that the hub is known to have out.
-fn spend<S: ActorStore>(hub: &mut Hub<S>, slip: Slip, fate: Fate)
-    requires { is_ok (handed_in fate (hub_model S.meaning hub.old) slip) ≡ true }
+pub(crate) fn spend<S: ActorStore>(hub: &mut Hub<S>, slip: Slip, fate: Fate)
+    requires owed { is_ok (handed_in fate (hub_model S.meaning hub.old) slip) ≡ true }
     ensures { hub_model S.meaning hub.new ≡ hub_after (hub_model S.meaning hub.old) (handed_in fate (hub_model S.meaning hub.old) slip) }
 {
     match fate {
-        Fate::Sent => taken(hub.sent(slip)),
-        Fate::Withheld => taken(hub.withheld(slip)),
+        Fate::Sent => hub.sent(slip).unwrap(),
+        Fate::Withheld => hub.withheld(slip).unwrap(),
     }
 }
 
-// Hands in the slip at a place.
-pub(crate) fn hand_in<S: ActorStore>(hub: &mut Hub<S>, held: &mut Vec<Slip>, i: usize, fate: Fate)
-    requires { (HoldsAll (hub_model S.meaning hub.old) held.old.items) × (i < vec_len held.old) }
-    ensures all { HoldsAll (hub_model S.meaning hub.new) held.new.items }
-    ensures after { (d : Slip) → hub_model S.meaning hub.new ≡ hub_after (hub_model S.meaning hub.old) (handed_in fate (hub_model S.meaning hub.old) (slice_index_or held.old.items i d)) }
-    ensures fewer { vec_len held.new + 1 ≡ vec_len held.old }
-{
-    let slip = held.remove(i);
-    spend(hub, slip, fate);
-}
-
-// Keeps a slip with the others. Where memory is short, its packet is withheld.
+// Keeps a slip with the others. Where memory is short, its packet is withheld. By the two fields of a `Desk`,
+// whose fact does not hold until the slip is kept.
 pub(crate) fn keep<S: ActorStore>(
     hub: &mut Hub<S>,
     held: &mut Vec<Slip>,
     slip: Slip,
 ) -> Result<(), AllocError>
-    requires { HoldsAll (hub_model S.meaning hub.old) (held.old.items ++ slip ∷ []) }
+    requires one_more { HoldsAll (hub_model S.meaning hub.old) (held.old.items ++ slip ∷ []) }
     ensures { HoldsAll (hub_model S.meaning hub.new) held.new.items }
 {
     match held.push(slip) {

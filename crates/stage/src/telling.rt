@@ -1,11 +1,10 @@
 // What a call told, on a line of its own.
 use fault::Fault;
 use model::{Arrival, KeyPress};
-use packet::PAYLOAD_MOST;
 use std::{fmt, io};
 
 // What became of a payload: what it was, and how many of its messages were understood.
-#[derive(Clone, Copy)]
+#[derive(Clone, Copy, PartialEq, Eq, Debug)]
 pub(crate) struct Taken {
     pub(crate) arrival: Arrival,
     pub(crate) count: usize,
@@ -19,7 +18,7 @@ impl fmt::Display for Taken {
 }
 
 // A key press, if there was one.
-#[derive(Clone, Copy)]
+#[derive(Clone, Copy, PartialEq, Eq, Debug)]
 pub(crate) struct LatestKey(pub(crate) Option<KeyPress>);
 
 impl fmt::Display for LatestKey {
@@ -32,7 +31,7 @@ impl fmt::Display for LatestKey {
 }
 
 // A reading in tenths of a degree, if there is one.
-#[derive(Clone, Copy)]
+#[derive(Clone, Copy, PartialEq, Eq, Debug)]
 pub(crate) struct Reading(pub(crate) Option<i16>);
 
 impl fmt::Display for Reading {
@@ -64,18 +63,6 @@ pub(crate) fn tell<T: fmt::Display + Drop>(
 ) -> io::Result<()> {
     match answer {
         Ok(told) => println!(rt; "ok {told}"),
-        Err(fault) => tell_refusal(rt, fault),
-    }
-}
-
-// The digits of a packet, which end the line.
-pub(crate) fn tell_packet(rt: &impl Print, packet: &[u8]) -> io::Result<()> {
-    let mut digits = [0; 2 * PAYLOAD_MOST];
-    match hexadecimal::encode(packet, &mut digits) {
-        Ok(count) => {
-            rt.write_all(&digits[0..count])?;
-            rt.println("")
-        }
         Err(fault) => tell_refusal(rt, fault),
     }
 }

@@ -1,22 +1,19 @@
-use Rattle.std.proofs.Common.{◌≡◌, Some, vec_items, sym, ap, ◌∙◌}
+use Rattle.std.proofs.Common.{◌≡◌, Some, sym, ap, ◌∙◌}
 use Rattle.model.specs.Models.{hub_after}
 use Rattle.hub.specs.Memory.{hub_model}
 use Rattle.hub.specs.declared.slip.Slip.{Slip}
 use Rattle.stage.specs.Slips.{handed_for, handed_in, place_for}
 use Rattle.stage.proofs.Places.{place_is}
-use Rattle.stage.proofs.calls.hand_in_for.Goals as goal
+use Rattle.stage.proofs.desk.Desk.hand_in_for.Goals as goal
 
 pub returns-in-Some : goal.returns-in-Some
 returns-in-Some g c =
-    let h = hub_model g.S.ActorStore.meaning c.args.hub.now in
-    let xs = vec_items c.args.held.now in
-    let s = c.args.packet.0 in
-    let n = c.args.packet.1 in
+    let h = hub_model g.S.ActorStore.meaning c.args.self.now.hub in
+    let xs = c.args.self.now.held.items in
+    let s = c.args.switch in
+    let n = c.args.number in
     let i = c.in-Some.i in
     let fate = c.args.fate in
     let wanted : Slip = record { switch = s; number = n } in
     let there : place_for s n xs ≡ Some i = ap (place_for s n) (sym c.as_slice.ensures.value) ∙ sym c.in-Some.ensures.answer in
-    record {
-      all = c.hand_in.ensures.all;
-      after = c.hand_in.ensures.after wanted ∙ ap (λ (x : Slip). hub_after h (handed_in fate h x)) (place_is s n xs i wanted there) ∙ sym (ap (handed_for fate h s n) there);
-    }
+    c.hand_in.ensures.after wanted ∙ ap (λ (x : Slip). hub_after h (handed_in fate h x)) (place_is s n xs i wanted there) ∙ sym (ap (handed_for fate h s n) there)
