@@ -3,3 +3,4 @@ pub mod Surveys
 pub mod Slips
 pub mod Writing
 pub mod Compositions
+pub mod Changes

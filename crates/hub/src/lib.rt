@@ -1,6 +1,7 @@
 // The hub: the controller's end of the line, over any actor store.
 #![tactic(auto)]
 
+mod changing;
 mod composing;
 mod enrolment;
 mod handing_in;

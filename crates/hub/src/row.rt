@@ -3,9 +3,10 @@ ghost use Rattle.std.specs.Prelude.{◌≡◌, map, Some, None, IfOk, IfErr, OnE
 ghost use Rattle.std.specs.Fn.{FnOnceReturnsAtMut};
 ghost use Rattle.std.specs.Option.{option_map};
 ghost use Rattle.model.specs.Models.{SwitchModel, change_switch, find_switch, switches_of, touched, with_switches};
-ghost use Rattle.switch.specs.Changes.{Makes};
+ghost use Rattle.hub.specs.Changes.{Makes};
 ghost use Rattle.hub.specs.Memory.{hub_model};
 
+use crate::changing::change_at;
 use crate::memory::Hub;
 use fault::{Fault, FrameFault};
 use store::meaning::ActorStore;
@@ -40,6 +41,6 @@ impl<S: ActorStore> Hub<S> {
         requires callable { F.IsAlwaysCallable change }
         ensures { (f : SwitchModel → SwitchModel) → Makes f (FnOnceReturnsAtMut F.FnOnce change) → hub_model S.meaning self.new ≡ change_switch id f (hub_model S.meaning self.old) }
     {
-        switch::change_at(self.switches.as_mut_slice(), id, change);
+        change_at(self.switches.as_mut_slice(), id, change);
     }
 }

@@ -9,4 +9,4 @@ mod stepping;
 
 pub use asking::stands_in;
 pub use memory::{MOST_ACTORS, Switch};
-pub use row::{change_at, find, touch_all};
+pub use row::{find, touch_all};

@@ -1,6 +1,6 @@
 use Rattle.std.proofs.Common.{refl}
-use Rattle.switch.proofs.Changes.{change_here, change_nowhere}
-use Rattle.switch.proofs.row.change_at.Goals as goal
+use Rattle.hub.proofs.Changes.{change_here, change_nowhere}
+use Rattle.hub.proofs.changing.change_at.Goals as goal
 
 pub returns-in-Some : goal.returns-in-Some
 returns-in-Some g c = λ f makes.
