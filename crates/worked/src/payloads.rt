@@ -12,7 +12,7 @@ const BARE: [u8; 16] = [
 ];
 
 // The number and the place of a refusal.
-pub fn refused(fault: Fault) -> (u8, usize) {
+pub(crate) fn refused(fault: Fault) -> (u8, usize) {
     (fault.number(), fault.place())
 }
 
@@ -62,7 +62,7 @@ fn reads(rt: &impl Abort, message: &[u8], record: Record) -> Result<(), Fail> {
 }
 
 // Checks which message a cursor gives next, and at which offset.
-pub fn gives(
+pub(crate) fn gives(
     rt: &impl Abort,
     cursor: &mut Cursor,
     place: usize,
