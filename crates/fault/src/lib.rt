@@ -122,13 +122,13 @@ impl fmt::Display for Layer {
     ghost output = { λ layer. Some (layer_name layer) };
 
     fn fmt<W: fmt::Write>(&self, f: &mut fmt::Formatter<W>) -> fmt::Result {
-        match *self {
-            Layer::Frame => write!(f, "frame"),
-            Layer::Message => write!(f, "message"),
-            Layer::Actor => write!(f, "actor"),
-            Layer::Store => write!(f, "store"),
-            Layer::Call => write!(f, "call"),
-        }
+        f.write_str(match self {
+            Layer::Frame => "frame",
+            Layer::Message => "message",
+            Layer::Actor => "actor",
+            Layer::Store => "store",
+            Layer::Call => "call",
+        })
     }
 }
 

@@ -15,6 +15,8 @@ const WITH_TABLE: usize = size_of::<Hub<Table>>() + BUFFERS;
 
 const WITH_IMAGE: usize = size_of::<Hub<Image>>() + BUFFERS;
 
+// Two functions, since each states its size as a number, which one over any store could not.
+
 // The bytes of a hub over a table of actors, with its buffers: below 64 KiB.
 pub fn bytes_with_table() -> usize
     ensures exact { result ≡ 14232 }

@@ -30,7 +30,7 @@ fn show_refusal(rt: &impl Print, fault: Fault) -> io::Result<()> {
     println!(rt; "refused {fault}")
 }
 
-// Reads the payload that a line spells, and gives it to the hub.
+// Reads the payload that a line spells, and gives it to the hub. `stage` does the like: each program stands alone.
 fn hear<S: ActorStore>(hub: &mut Hub<S>, line: &[u8]) -> Result<(Arrival, usize), Fault> {
     let mut payload = [0; PAYLOAD_MOST];
     let length = hexadecimal::decode(line, &mut payload)?;

@@ -13,7 +13,7 @@ fn place_of(switches: &[Switch], id: u16) -> Option<usize>
     switches.iter().position(|switch| switch.id() == id)
 }
 
-// Changes the switch with this ID, if there is one: by its place, since a proof knows no element of a slice after a write through `iter_mut`.
+// Changes the switch with this ID, if there is one: by its place, since a proof knows no element of the row once what `iter_mut().find(..)` lent is given back.
 pub(crate) fn change_at<F: FnOnce(&mut Switch)>(switches: &mut [Switch], id: u16, change: F)
     requires callable { F.IsAlwaysCallable change }
     ensures { (f : SwitchModel → SwitchModel) → Makes f (FnOnceReturnsAtMut F.FnOnce change) → switches.new ≡ at_switch id f switches.old }

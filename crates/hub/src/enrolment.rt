@@ -16,11 +16,12 @@ fn check_entries<S: ActorStore>(store: &S, actors: &[u16]) -> Result<(), Fault>
     ensures answer { result ≡ unless (entry_fault (S.meaning store.now) [] 0 actors.now) tt }
     ensures named { OnOk result (lists actors.now 0 ≡ false) }
 {
-    for (i, actor) in actors.iter().enumerate() {
-        if *actor == 0 || switch::stands_in(&actors[..i], *actor) {
+    // by index, since the refusal tells it
+    for (i, &actor) in actors.iter().enumerate() {
+        if actor == 0 || switch::stands_in(&actors[..i], actor) {
             return Err(Fault::Store(StoreFault::ListEntry, i));
         }
-        if store.read(*actor).is_err() {
+        if store.read(actor).is_err() {
             return Err(Fault::Store(StoreFault::UnknownActor, i));
         }
     }

@@ -1,4 +1,4 @@
-// Handing a slip in: the packet was sent, or it was withheld.
+// Handing a slip in: the packet was sent, or it was withheld. Two calls that the rules name, over `redeem` and `change`.
 ghost use Rattle.std.specs.Prelude.{◌≡◌, true, false, IfOk, IfErr, OnOk, OnErr};
 ghost use Rattle.model.specs.Composing.{sent as sent_step, withheld as withheld_step};
 ghost use Rattle.model.specs.Models.{hub_after};

@@ -10,7 +10,7 @@ use switch::Switch;
 // How many switches a hub serves at most.
 const MOST_SWITCHES: usize = 32;
 
-// The switches lie in order of enrolment.
+// The switches lie in order of enrolment. No `Model`: the record of a hub holds what its store means, a function, and a model's value can hold none.
 #[derive(Drop)]
 pub struct Hub<S: ActorStore> {
     pub(crate) site: Site,

@@ -1,4 +1,4 @@
-// Questions: each tells something of one enrolled switch, and changes nothing.
+// Questions: each tells something of one enrolled switch, and changes nothing. Each is a call that the rules name, one line over `enrolled`.
 ghost use Rattle.std.specs.Prelude.{◌≡◌};
 ghost use Rattle.model.specs.Questions.{actor_mark, control_mark, flags_of, key_of, outstanding_at, reading_at};
 ghost use Rattle.hub.specs.Memory.{hub_model};

@@ -1,4 +1,4 @@
-// Settings: an actual value, a target, a control word.
+// Settings: an actual value, a target, a control word. Those of a value are two calls that the rules name, over `set_value`.
 ghost use Rattle.std.specs.Prelude.{◌≡◌};
 ghost use Rattle.model.specs.Models.{answer_of, hub_after};
 ghost use Rattle.model.specs.Settings.{lawful_control, set_control, set_value};
@@ -16,6 +16,7 @@ const CONTROL_MUST: u32 = 1 << 8;
 fn is_lawful_control(word: u32) -> bool
     ensures { result ≡ lawful_control word }
 {
+    // by division, as the rules' definition tests the bit
     word & CONTROL_BITS == word && word / CONTROL_MUST % 2 == 1
 }
 

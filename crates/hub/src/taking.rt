@@ -14,7 +14,7 @@ use store::meaning::{ActorStore, Half};
 use switch::Switch;
 
 // What the checking pass found: how many messages are understood, and where the first stands that is for an actor not listed.
-#[derive(Clone, Copy, Default)]
+#[derive(Clone, Copy, PartialEq, Eq, Debug, Default)]
 pub(crate) struct Survey {
     pub(crate) understood: usize,
     pub(crate) unlisted: Option<usize>,
@@ -95,7 +95,7 @@ impl<S: ActorStore> Hub<S> {
         }
     }
 
-    // The applying pass, over a payload whose messages all read.
+    // The applying pass, over a payload whose messages all read: two calls ask for that and pass it on, so that a type of its own for it would be no plainer.
     fn hear_all(&mut self, id: u16, payload: &[u8])
         requires { is_ok (messages_from payload.now 16) ≡ true }
         ensures { hub_model S.meaning self.new ≡ heard_all id (messages_from payload.now 16) (hub_model S.meaning self.old) }

@@ -33,6 +33,7 @@ pub record Agrees {R : Type 0} (k l : Layout R) : Type 0 where
   pub encode : (r : R) → k.encode r ≡ l.encode r
   pub decode : (s : List ℕ) → k.decode s ≡ l.decode s
   pub masked : (r : R) → k.masked r ≡ l.masked r
+  pub fits : (r : R) → (k.Fits r → l.Fits r) × (l.Fits r → k.Fits r)
 
 -- the little-endian word at a place
 abbrev pub word : List ℕ → ℕ → ℕ

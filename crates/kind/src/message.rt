@@ -29,7 +29,7 @@ pub trait Kind {
     fn decode(data: &[u8]) -> Option<Self::Record>
         ensures { result ≡ data_of layout «data».now };
 
-    // A message's data: the first LEN - 4 bytes of these, and zeros.
+    // A message's data: the first LEN - 4 bytes of these, and zeros. Four for every kind, since no array's length can be computed from LEN.
     fn encode(record: Self::Record) -> [u8; 4]
         ensures { result ≡ padded (layout.encode «record») };
 

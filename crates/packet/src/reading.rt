@@ -20,6 +20,7 @@ fn count_behind(payload: &[u8]) -> Result<usize, Fault>
     ensures { result ≡ count_of (messages_from payload.now 16) }
 {
     let mut cursor = Cursor::new(payload);
+    // counts messages, and no index
     let mut understood = 0;
     while let Some((_, message)) = cursor.next()? {
         if message.is_known() {

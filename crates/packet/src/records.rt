@@ -43,6 +43,7 @@ impl Message {
         let &[len, id, _lo, _hi, ..] = rest else {
             return Err(Fault::Message(MessageFault::Broken, place));
         };
+        // `kind::read` checks this again, since it can be called alone
         if len < 4 || len as usize > rest.len() {
             return Err(Fault::Message(MessageFault::Broken, place));
         }

@@ -25,6 +25,7 @@ impl Part for Actors {
     fn read(text: &[u8]) -> Option<Self> {
         let mut entries = ArrayVec::new();
         let mut left = text;
+        // by `cut`: a `for` over `split` that may leave early needs an invariant on the iterator's state in place of one on the rest
         while let Some((entry, rest)) = cut(left, COMMA) {
             keep(&mut entries, u16::read(entry)?);
             left = rest;

@@ -13,7 +13,7 @@ use crate::words::cut;
 use packet::PAYLOAD_MOST;
 
 // The room for a packet. No longer buffer is of use than the longest packet.
-#[derive(Drop)]
+#[derive(Clone, Copy, PartialEq, Eq, Debug)]
 struct Room {
     bytes: usize,
 }

@@ -27,9 +27,5 @@ pub(crate) fn two<A: Part, B: Part>(text: &[u8]) -> Option<(A, B)>
 pub(crate) fn any_word(text: &[u8]) -> Option<&[u8]>
     ensures { option_map (λ x. x.now) result ≡ any_word text.now }
 {
-    if text.is_empty() || cut(text, SPACE).is_some() {
-        None
-    } else {
-        Some(text)
-    }
+    (!text.is_empty() && cut(text, SPACE).is_none()).then_some(text)
 }

@@ -101,17 +101,13 @@ fn open(
 
 // A line before the hub is open.
 fn begin(rt: &impl Print, heap: Global, line: &[u8], rest: &[u8]) -> io::Result<Begun> {
-    match script::parse(line) {
-        Some(Call::Open { site, store }) => open(rt, heap, store, site, rest),
-        Some(_) => {
-            rt.println("unready")?;
-            Ok(Begun::Unopened)
-        }
-        None => {
-            rt.println("unknown")?;
-            Ok(Begun::Unopened)
-        }
-    }
+    let told = match script::parse(line) {
+        Some(Call::Open { site, store }) => return open(rt, heap, store, site, rest),
+        Some(_) => "unready",
+        None => "unknown",
+    };
+    rt.println(told)?;
+    Ok(Begun::Unopened)
 }
 
 fn stage(rt: &impl Print, heap: Global, text: &[u8]) -> io::Result<()> {
@@ -120,9 +116,8 @@ fn stage(rt: &impl Print, heap: Global, text: &[u8]) -> io::Result<()> {
         if script::is_passed_over(line) {
             continue;
         }
-        match begin(rt, heap, line, lines.rest())? {
-            Begun::Ran => return Ok(()),
-            Begun::Unopened => {}
+        if begin(rt, heap, line, lines.rest())? == Begun::Ran {
+            return Ok(());
         }
     }
     Ok(())

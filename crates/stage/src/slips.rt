@@ -8,7 +8,7 @@ use hub::{Hub, Slip};
 use std::alloc::AllocError;
 use store::meaning::ActorStore;
 
-// What became of a packet.
+// What became of a packet. A case and no closure: one definition, `handed_in`, says of it what the hub is then, for all that pass it on.
 #[derive(Clone, Copy, PartialEq, Eq, Debug)]
 pub(crate) enum Fate {
     Sent,

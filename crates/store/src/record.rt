@@ -4,7 +4,7 @@ ghost use Rattle.store.specs.Records.{record_with, zero_record};
 
 use crate::meaning::Half;
 
-#[derive(Clone, Copy)]
+#[derive(Clone, Copy, PartialEq, Eq, Debug)]
 pub struct Record {
     pub(crate) actor: u16,
     pub(crate) actual: i16,

@@ -52,6 +52,7 @@ fn enrolled(id: u16, actors: &[u16]) -> Switch
     }
 }
 
+// By hand: a derived one would have control word 0 and nothing due.
 impl Default for Switch {
     ghost is_default = { λ s. s ≡ new_switch 0 [] };
 

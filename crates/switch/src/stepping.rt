@@ -47,6 +47,7 @@ impl Switch {
         ensures { self.new ≡ with_state flags self.old }
     {
         self.report.flags = flags;
+        // by division, as the rules' definition tests the bit
         if flags / INIT_REQUEST % 2 == 1 {
             self.move_all(Change::Changed);
         }

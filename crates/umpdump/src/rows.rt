@@ -6,7 +6,7 @@ use crate::degrees::Degrees;
 use packet::{Message, Record};
 use std::fmt;
 
-// The bit of State by which a switch that has restarted asks for all values.
+// The bit of State by which a switch that has restarted asks for all values: the hub's too, but what only shows a capture stands on no crate of the hub's.
 const INIT_REQUEST: u32 = 0x40;
 
 fn asks_init(flags: u32) -> bool
@@ -15,7 +15,7 @@ fn asks_init(flags: u32) -> bool
     flags & INIT_REQUEST != 0
 }
 
-// A text and no `Display`, since its column is padded.
+// A text: a `Display` for `packet`'s type would need a wrapper here, and `pad` for the column.
 fn kind_name(record: Record) -> &'static str
     ensures { result.now ≡ name_of «record» }
 {

@@ -13,7 +13,7 @@ const WORDS: Descriptor = Descriptor {
     design: 5,
 };
 
-// Adds a record, or lets the draft go and tells the fault.
+// Adds a record, or lets the draft go and tells the fault. A draft is a number alone, so its buffer goes with it at each call.
 fn added(draft: Draft, buf: &mut [u8], record: Record) -> Result<Draft, Fault> {
     draft.add(buf, record).map_err(|(fault, _)| fault)
 }
@@ -33,7 +33,7 @@ fn values_of(actor: u16) -> (i16, i16) {
 // All that a switch with actors 1 to 64 can be told: 64 × (6 + 6) bytes and 8 bytes behind the descriptor.
 fn refresh(buf: &mut [u8]) -> Result<usize, Fault> {
     let mut draft = Draft::begin(buf, WORDS)?;
-    for actor in 1..65u16 {
+    for actor in 1..=64u16 {
         let (actual, target) = values_of(actor);
         draft = added(draft, buf, Record::RealValue { actor, actual })?;
         draft = added(draft, buf, Record::EditValue { actor, target })?;
@@ -45,6 +45,7 @@ fn refresh(buf: &mut [u8]) -> Result<usize, Fault> {
 // A draft of 182 Control messages of 8 bytes.
 fn packed(buf: &mut [u8]) -> Result<Draft, Fault> {
     let mut draft = Draft::begin(buf, WORDS)?;
+    // repeats a step that can fail; nothing is counted
     for _ in 0..182 {
         draft = added(draft, buf, Record::Control(0x130))?;
     }
@@ -69,7 +70,7 @@ fn full_refresh(rt: HostRuntime) -> Result<(), Fail> {
     assert_eq!(rt; packet.descriptor, WORDS);
     assert_eq!(rt; packet.understood, 129);
     let mut cursor = Cursor::new(&buf[0..792]);
-    for actor in 1..65u16 {
+    for actor in 1..=64u16 {
         let (actual, target) = values_of(actor);
         let place = 4 + 12 * actor as usize;
         let first = Message::Known(Record::RealValue { actor, actual });

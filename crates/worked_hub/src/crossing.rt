@@ -41,6 +41,7 @@ fn crossing(rt: HostRuntime) -> Result<(), Fail> {
 // Sends as often as told, and tells the last number.
 fn send_often(hub: &mut Hub<Table>, times: u16, packet: &mut [u8]) -> Result<u16, Fault> {
     let mut last = 0;
+    // repeats a step that can fail; nothing is counted
     for _ in 0..times {
         let (_, _, number) = send(hub, 8, packet)?;
         last = number;

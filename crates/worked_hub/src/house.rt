@@ -26,7 +26,7 @@ pub(crate) fn house() -> Result<Hub<Table>, Fault> {
     Ok(hub)
 }
 
-// Number and place of a refusal, as documents and logs know it.
+// Number and place of a refusal, as documents and logs know it: two lines, for which the crates of tests need no crate of their own.
 fn numbered(fault: Fault) -> (u8, usize) {
     (fault.number(), fault.place())
 }
@@ -35,7 +35,7 @@ pub(crate) fn refused<T: Drop>(answer: Result<T, Fault>) -> Option<(u8, usize)> 
     answer.err().map(numbered)
 }
 
-// A descriptor of switch 8 in an event, which says 16 bytes.
+// A descriptor of switch 8 in an event, which says 16 bytes. What follows is the like of crate worked's, with a hub and a package number.
 const BARE: [u8; 16] = [
     0x01, 0x86, 0x10, 0x00, 0x01, 0x02, 0x00, 0x00, 0x34, 0x12, 0x00, 0x00, 0x08, 0x00, 0x05, 0x00,
 ];

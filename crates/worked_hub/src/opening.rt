@@ -14,15 +14,13 @@ fn other_major_version(rt: HostRuntime) -> Result<(), Fail> {
         version: 0x0300,
         ..SITE
     };
-    match Hub::open(table, site) {
-        Ok(_) => Err(Fail::new("a hub of another major version was opened")),
-        Err(back) => {
-            assert_eq!(rt; back.0.number(), 4);
-            assert_eq!(rt; back.0.place(), 0);
-            assert_eq!(rt; back.1.read(1)?, (5, 0));
-            Ok(())
-        }
-    }
+    let Err((fault, table)) = Hub::open(table, site) else {
+        return Err(Fail::new("a hub of another major version was opened"));
+    };
+    assert_eq!(rt; fault.number(), 4);
+    assert_eq!(rt; fault.place(), 0);
+    assert_eq!(rt; table.read(1)?, (5, 0));
+    Ok(())
 }
 
 #[test]

@@ -13,7 +13,7 @@ mod tests {
     use store::readback::put_and_read;
     use store::table::Table;
 
-    // Number and place of a refusal. worked_hub has the same two lines: a crate of their own for them would be no plainer.
+    // Number and place of a refusal. worked_hub has the like of it: a crate of their own for two lines would be no plainer.
     fn refused<T: Drop>(answer: Result<T, Fault>) -> Option<(u8, usize)> {
         let fault = answer.err()?;
         Some((fault.number(), fault.place()))
