@@ -41,6 +41,7 @@ pub fn next_line(text: &[u8]) -> Option<(&[u8], &[u8])>
     ensures first { MatchOption result (length text.now ≡ 0) (λ p. FirstLine text.now p.0.now p.1.now) }
     ensures shorter { MatchOption result (length text.now ≡ 0) (λ p. Shorter text.now p.0.now p.1.now) }
 {
+    // an `if`, since `then` over a closure says the same in as many words
     if text.is_empty() {
         None
     } else {

@@ -64,6 +64,7 @@ fn open_over<S: ActorStore + Drop>(
             run(rt, Desk::new(hub, heap), rest)?;
             Ok(Begun::Ran)
         }
+        // the store comes back with the fault, and is let go
         Err(back) => {
             tell_refusal(rt, back.0)?;
             Ok(Begun::Unopened)
@@ -85,6 +86,7 @@ fn open(
     site: Site,
     rest: &[u8],
 ) -> io::Result<Begun> {
+    // two arms of one shape, each over a store of another type
     let fault = match store {
         Store::Table(list) => match Table::open(list.entries()) {
             Ok(table) => return open_over(rt, heap, table, site, rest),

@@ -45,6 +45,7 @@ pub(crate) fn keep<S: ActorStore>(
     requires one_more { HoldsAll (hub_model S.meaning hub.old) (held.old.items ++ slip ∷ []) }
     ensures { HoldsAll (hub_model S.meaning hub.new) held.new.items }
 {
+    // a match, since the slip that comes back is spent on the way
     match held.push(slip) {
         Ok(()) => Ok(()),
         Err(back) => {

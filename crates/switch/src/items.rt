@@ -1,4 +1,4 @@
-// The items of a switch, as a slice.
+// The items of a switch, as a slice. Loops, since after `for_each` a proof knows nothing of what was written.
 ghost use Rattle.std.specs.Prelude.{◌≡◌, map};
 ghost use Rattle.model.specs.Models.{any_outstanding, moved_item, touched_item};
 
