@@ -7,7 +7,8 @@ use Rattle.store.specs.Meaning.{lawful, lawful_pair, replaced}
 use Rattle.store.specs.declared.meaning.Half.{Half}
 use Rattle.store.specs.declared.meaning.Half.TheVariants.{Actual, Target}
 use Rattle.store.proofs.Meanings.{lawful_replaced}
-use Rattle.image.specs.Layout.{word_at, signed_at, page_count, length_of, place_of, pair_at, has_actor, actors_of, lawful_frame, lawful_values, lawful_block, block_in, written}
+use Rattle.kind.specs.Layout.{word}
+use Rattle.image.specs.Layout.{signed_at, page_count, length_of, place_of, pair_at, has_actor, actors_of, lawful_frame, lawful_values, lawful_block, block_in, written}
 use Rattle.image.specs.LawfulValues.{block_parts, actor_bounds, value_lawful}
 use Rattle.image.proofs.Values.{inside, all_lawful, count_in}
 
@@ -31,7 +32,7 @@ module _ (bytes : List ℕ) (at : ℕ) (v : ℤ) where
   pub length_written : length (written bytes at v) ≡ length bytes
   length_written = length-set (set bytes at (of_z w16 v % 256)) (at + 1) _ ∙ length-set bytes at _
 
-  pub word_kept : (b : ℕ) → (b + 2 ≤ at) ⊎ (at + 2 ≤ b) → word_at (written bytes at v) b ≡ word_at bytes b
+  pub word_kept : (b : ℕ) → (b + 2 ≤ at) ⊎ (at + 2 ≤ b) → word (written bytes at v) b ≡ word bytes b
   word_kept b (inl l) = ap₂ (λ x y. x + y * 256) (byte_kept b (omega arith) (omega arith)) (byte_kept (b + 1) (omega arith) (omega arith))
   word_kept b (inr l) = ap₂ (λ x y. x + y * 256) (byte_kept b (omega arith) (omega arith)) (byte_kept (b + 1) (omega arith) (omega arith))
 
@@ -111,10 +112,10 @@ module _ (bytes : List ℕ) (h : Half) (a : ℕ) (v : ℤ) (f : SFits w16 v) (lo
       let i = word_kept bytes (place_of h a) v 0 (inl (omega arith)) in
       let m = word_kept bytes (place_of h a) v 2 (inl (omega arith)) in
       let l = length_written bytes (place_of h a) v in
-      ap (λ x. head x (page_count after) (length after) (word_at after 2)) i
-      ∙ ap (λ x. head (word_at bytes 0) x (length after) (word_at after 2)) count_kept
-      ∙ ap (λ x. head (word_at bytes 0) (page_count bytes) x (word_at after 2)) l
-      ∙ ap (λ x. head (word_at bytes 0) (page_count bytes) (length bytes) x) m
+      ap (λ x. head x (page_count after) (length after) (word after 2)) i
+      ∙ ap (λ x. head (word bytes 0) x (length after) (word after 2)) count_kept
+      ∙ ap (λ x. head (word bytes 0) (page_count bytes) x (word after 2)) l
+      ∙ ap (λ x. head (word bytes 0) (page_count bytes) (length bytes) x) m
 
   pub lawful_after : lawful v ≡ true → lawful_block bytes ≡ true → lawful_block after ≡ true
   lawful_after l w =

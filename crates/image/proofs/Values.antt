@@ -5,7 +5,8 @@ use Rattle.std.proofs.lemmas.List.{get_or_append_left, get_or-take, take_at}
 use Rattle.std.proofs.lemmas.Bool.{and_parts, and_from, leb-true, eqb-true, true≢false}
 use Rattle.store.specs.Meaning.{lawful_pair}
 use Rattle.store.specs.declared.meaning.Half.TheVariants.{Target}
-use Rattle.image.specs.Layout.{word_at, page_count, right_frame, right_count, right_length, length_of, place_of, pair_at, lawful_values, lawful_frame, block_in}
+use Rattle.kind.specs.Layout.{word}
+use Rattle.image.specs.Layout.{page_count, right_frame, right_count, right_length, length_of, place_of, pair_at, lawful_values, lawful_frame, block_in}
 use Rattle.image.specs.LawfulValues.{value_lawful}
 
 pub record Framed (bytes : List ℕ) : Type 0 where
@@ -18,7 +19,7 @@ framed bytes h =
     let n = page_count bytes in
     let p = and_parts (right_count bytes) (right_length bytes) (and_parts (right_frame bytes) (right_count bytes && right_length bytes) h).1 in
     let q = and_parts (nat_le 1 n) (nat_le n 16) p.0 in
-    let r = and_parts (length bytes == length_of n) (word_at bytes 2 == length_of n) p.1 in
+    let r = and_parts (length bytes == length_of n) (word bytes 2 == length_of n) p.1 in
     record { some = leb-true _ _ q.0; few = leb-true _ _ q.1; long = eqb-true _ _ r.0 }
 
 -- the block at the front of its room

@@ -5,16 +5,14 @@ use Rattle.std.proofs.Common.{to_z, of_z}
 use Rattle.fault.specs.declared.Fault.{Fault}
 use Rattle.fault.specs.declared.Fault.TheVariants.{Store}
 use Rattle.fault.specs.declared.StoreFault.TheVariants as store
+use Rattle.kind.specs.Layout.{word}
 use Rattle.store.specs.Meaning.{Known, lawful_pair, put_answer, unknown_actor}
 use Rattle.store.specs.declared.meaning.Half.{Half}
 use Rattle.store.specs.declared.meaning.Half.TheVariants.{Actual, Target}
 
--- the word at a place, low byte first
-abbrev pub word_at : List ℕ → ℕ → ℕ
-word_at bytes at = slice_index bytes at + slice_index bytes (at + 1) * 256
-
+-- the signed word at a place
 abbrev pub signed_at : List ℕ → ℕ → ℤ
-signed_at bytes at = to_z w16 (word_at bytes at)
+signed_at bytes at = to_z w16 (word bytes at)
 
 -- Page.Count
 abbrev pub page_count : List ℕ → ℕ
@@ -62,7 +60,7 @@ lawful_values bytes (suc k) = lawful_pair (Some (pair_at bytes (suc k))) && lawf
 
 -- FrameID
 abbrev pub right_frame : List ℕ → Bool
-right_frame bytes = word_at bytes 0 == 0x7501
+right_frame bytes = word bytes 0 == 0x7501
 
 -- 1 to 16 pages
 abbrev pub right_count : List ℕ → Bool
@@ -70,7 +68,7 @@ right_count bytes = nat_le 1 (page_count bytes) && nat_le (page_count bytes) 16
 
 -- the slice's length and FrameLength are those of its pages
 abbrev pub right_length : List ℕ → Bool
-right_length bytes = length bytes == length_of (page_count bytes) && word_at bytes 2 == length_of (page_count bytes)
+right_length bytes = length bytes == length_of (page_count bytes) && word bytes 2 == length_of (page_count bytes)
 
 abbrev pub lawful_frame : List ℕ → Bool
 lawful_frame bytes = right_frame bytes && (right_count bytes && right_length bytes)

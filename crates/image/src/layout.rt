@@ -1,6 +1,7 @@
 // Where a block keeps its actors' values, and how they are read and written there.
 ghost use Rattle.std.specs.Prelude.{◌≡◌, ◌+◌, ◌<◌, ◌≤◌, length};
-ghost use Rattle.image.specs.Layout.{Holds, length_of, pair_at, place_of, word_at, written};
+ghost use Rattle.image.specs.Layout.{Holds, length_of, pair_at, place_of, written};
+ghost use Rattle.kind.specs.Layout.{word};
 
 use store::meaning::Half;
 
@@ -29,7 +30,7 @@ pub(crate) fn place_of(half: Half, actor: u16) -> usize
 // The word at a place.
 pub(crate) fn read_word(block: &[u8], at: usize) -> u16
     requires inside { at + 1 < length block.now }
-    ensures { result ≡ word_at block.now at }
+    ensures { result ≡ word block.now at }
 {
     u16::from_le_bytes([block[at], block[at + 1]])
 }

@@ -41,14 +41,14 @@ pub trait Kind {
     ghost lawful: { Lawful layout };
 }
 
-// Reads the message that begins `rest` as one of kind K. `rest` is what is left of a payload, from `place` on.
-pub fn read<K: Kind>(rest: &[u8], place: usize) -> Result<(u16, K::Record), Fault>
-    ensures { result ≡ read_of K.layout rest.now place }
+// Reads the message that begins `bytes` as one of kind K. `bytes` is what is left of a payload, from `place` on.
+pub fn read<K: Kind>(bytes: &[u8], place: usize) -> Result<(u16, K::Record), Fault>
+    ensures { result ≡ read_of K.layout bytes.now place }
 {
-    let &[len, _, lo, hi, ..] = rest else {
+    let &[len, _id, lo, hi, ref rest @ ..] = bytes else {
         return Err(Fault::Message(MessageFault::Broken, place));
     };
-    if len < 4 || len as usize > rest.len() {
+    if len < 4 || len as usize > bytes.len() {
         return Err(Fault::Message(MessageFault::Broken, place));
     }
     if len != K::LEN {
@@ -58,7 +58,7 @@ pub fn read<K: Kind>(rest: &[u8], place: usize) -> Result<(u16, K::Record), Faul
     if !K::admits(actor) {
         return Err(Fault::Message(MessageFault::ActorRule, place));
     }
-    let record = K::decode(&rest[4..K::LEN as usize]).unwrap();
+    let record = K::decode(&rest[..K::LEN as usize - 4]).unwrap();
     Ok((actor, record))
 }
 

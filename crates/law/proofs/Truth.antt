@@ -1,6 +1,7 @@
 -- Each listed actor is shown as last accepted or opened with, or reported outstanding, or excused.
 use Rattle.std.proofs.Common.{◌≡◌, ℕ, Bool, true, false, cond, ◌||◌, eqb, ◌⊎◌, List, [], ◌∷◌, Some, Ok, sym, refl, ap, ◌∙◌, subst, inl, inr, ⊎_elim, le_refl}
 use Rattle.std.specs.List.{AllByRecursion}
+use Rattle.std.specs.Option.{ok_or}
 use Rattle.std.proofs.lemmas.Bool.{eqb-true, true≢false}
 use Rattle.packet.specs.Words.{major}
 use Rattle.store.specs.declared.meaning.Half.TheVariants.{Actual, Target}
@@ -11,7 +12,7 @@ use Rattle.model.specs.declared.mark.Mark.TheVariants.{Settled, Due, UnderWay}
 use Rattle.model.specs.declared.told.Site.{Site}
 use Rattle.model.specs.Composing.{values_of}
 use Rattle.model.specs.Models.{lists_actor, mark_of_actor}
-use Rattle.model.specs.Questions.{actor_mark, listed_mark}
+use Rattle.model.specs.Questions.{actor_mark, not_listed}
 use Rattle.model.specs.Settings.{at_enrolled}
 use Rattle.law.specs.Values.{last_accepted, slot}
 use Rattle.law.specs.World.{End}
@@ -44,7 +45,7 @@ truth site st fit version l w run s a (m, enrolled, listed) =
     let i = keep_run site fit version run (holds_at_opening site st l) in
     let f : SwitchFine w.hub.store m (w.ends s) = subst (λ o. Enrolled w.hub.store o (w.ends s)) enrolled (i.each s).1 in
     let r = asked_mark w.hub.store f.marks (w.ends s) a m.items f.items listed in
-    let told : actor_mark w.hub s a ≡ Ok (f.marks a) = ap (λ o. at_enrolled o (λ n. listed_mark (mark_of_actor a n.items))) enrolled ∙ ap listed_mark r.0 in
+    let told : actor_mark w.hub s a ≡ Ok (f.marks a) = ap (λ o. at_enrolled o (λ n. ok_or (mark_of_actor a n.items) not_listed)) enrolled ∙ ap (λ o. ok_or o not_listed) r.0 in
     go i (f.marks a) told r.1
   where
     go : Holds site w → (μ : Mark) → actor_mark w.hub s a ≡ Ok μ → MarkFine (values_of (w.hub.store a)) a (w.ends s) μ → Shows w s a ⊎ (ReportedOutstanding w s a ⊎ Excused (w.ends s) a)

@@ -1,5 +1,6 @@
 -- Questions: each tells something of one enrolled switch, and changes nothing.
-use Rattle.std.specs.Prelude.{ℕ, Bool, ℤ, Some, None, Ok, Err, Option, Result}
+use Rattle.std.specs.Prelude.{ℕ, Bool, ℤ, Ok, Option, Result}
+use Rattle.std.specs.Option.{ok_or}
 use Rattle.fault.specs.declared.ActorFault.TheVariants.{NotListed}
 use Rattle.fault.specs.declared.Fault.{Fault}
 use Rattle.fault.specs.declared.Fault.TheVariants.{Actor}
@@ -12,13 +13,12 @@ use Rattle.model.specs.Settings.{at_enrolled}
 abbrev pub asked : {A : Type 0} → HubModel → ℕ → (SwitchModel → Result A Fault) → Result A Fault
 asked h id f = at_enrolled (find_switch id h.switches) f
 
-abbrev pub listed_mark : Option Mark → Result Mark Fault
-listed_mark None = Err (Actor NotListed 0)
-listed_mark (Some mark) = Ok mark
+abbrev pub not_listed : Fault
+not_listed = Actor NotListed 0
 
 -- how the switch stands to an actor that it lists
 abbrev pub actor_mark : HubModel → ℕ → ℕ → Result Mark Fault
-actor_mark h id a = asked h id (λ m. listed_mark (mark_of_actor a m.items))
+actor_mark h id a = asked h id (λ m. ok_or (mark_of_actor a m.items) not_listed)
 
 -- how it stands to its control word
 abbrev pub control_mark : HubModel → ℕ → Result Mark Fault

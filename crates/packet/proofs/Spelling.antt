@@ -5,7 +5,7 @@ use Rattle.std.proofs.lemmas.List.{drop_at, drop_more, length-append, length-dro
 use Rattle.std.proofs.lemmas.Bool.{cases_Bool, cond-false, cond-true, eq-eqb, eqb-false, eqb-true, le-ltb, ltb-false, ne_eqb, not-false, not_from_false, not-true, or_from, or_parts}
 use Rattle.fault.specs.declared.Fault.{Fault}
 use Rattle.kind.specs.Layout.{Layout, broken, read_of, word}
-use Rattle.kind.specs.Kinds.{state, control, edit_value, real_value, event, flags, some_actor, temperature}
+use Rattle.kind.specs.Kinds.{state, control, edit_value, real_value, event, flags, no_actor, some_actor, temperature}
 use Rattle.kind.proofs.Messages.{accepted}
 use Rattle.packet.specs.declared.records.Record.{Record}
 use Rattle.packet.specs.declared.records.Record.TheVariants.{State, Control, EditValue, RealValue, Event, Temperature}
@@ -136,20 +136,28 @@ module _ (s : List ℕ) (place : ℕ) (m : Message) (whole : broken s ≡ false)
   room : get_or s 0 0 ≤ length s
   room = (whole_from s whole).2
 
-  flags_says : (ident mask : ℕ) (f : ℕ → Record)
-      → ((a b c d : ℕ) → Says (8 ∷ ident ∷ 0 ∷ 0 ∷ a ∷ b ∷ c ∷ d ∷ []) (Known (f (bit_and (a + b * 256 + c * 65536 + d * 16777216) mask))))
-      → get_or s 1 0 ≡ ident → told (λ _ r. f r) (read_of (flags ident mask) s place) ≡ Ok m → Says (take (get_or s 0 0) s) m
-  flags_says ident mask f says id e =
-      let t = seen (flags ident mask) (λ _ r. f r) s place m e in
-      let size : get_or s 0 0 ≡ 8 = t.0 in
-      let no_actor : word s 2 ≡ 0 = eqb-true _ _ t.1 in
+  -- a message of eight bytes that concerns the switch as a whole: its bytes, and what it is read as
+  eight_says : {R : Type 0} (k : Layout R) (f : R → Record) → k.size ≡ 8 → k.admits ≡ no_actor → get_or s 1 0 ≡ k.ident → told (λ _ r. f r) (read_of k s place) ≡ Ok m
+      → (take (get_or s 0 0) s ≡ 8 ∷ k.ident ∷ 0 ∷ 0 ∷ get_or s 4 0 ∷ get_or s 5 0 ∷ get_or s 6 0 ∷ get_or s 7 0 ∷ [])
+      × (m ≡ Known (f (k.decode (get_or s 4 0 ∷ get_or s 5 0 ∷ get_or s 6 0 ∷ get_or s 7 0 ∷ []))))
+  eight_says k f eight rule id e =
+      let t = seen k (λ _ r. f r) s place m e in
+      let size : get_or s 0 0 ≡ 8 = t.0 ∙ eight in
+      let zero_actor : word s 2 ≡ 0 = eqb-true _ _ (sym (ap (λ (p : ℕ → Bool). p (word s 2)) rule) ∙ t.1) in
       let long = room in
       let lo : get_or s 2 0 ≡ 0 = omega arith in
       let hi : get_or s 3 0 ≡ 0 = omega arith in
       let parts = front 8 s 0 (omega arith) in
-      let bytes : take 8 s ≡ 8 ∷ ident ∷ 0 ∷ 0 ∷ get_or s 4 0 ∷ get_or s 5 0 ∷ get_or s 6 0 ∷ get_or s 7 0 ∷ [] = cc in
-      as_said (ap (λ (n : ℕ). take n s) size ∙ bytes) (t.2 ∙ ap (λ (l : List ℕ). Known (f ((flags ident mask).decode l))) (front 4 s 4 (omega arith)))
-      (says (get_or s 4 0) (get_or s 5 0) (get_or s 6 0) (get_or s 7 0))
+      let bytes : take 8 s ≡ 8 ∷ k.ident ∷ 0 ∷ 0 ∷ get_or s 4 0 ∷ get_or s 5 0 ∷ get_or s 6 0 ∷ get_or s 7 0 ∷ [] = cc in
+      let content : take (k.size - 4) (drop 4 s) ≡ get_or s 4 0 ∷ get_or s 5 0 ∷ get_or s 6 0 ∷ get_or s 7 0 ∷ [] = ap (λ (n : ℕ). take (n - 4) (drop 4 s)) eight ∙ front 4 s 4 (omega arith) in
+      (ap (λ (n : ℕ). take n s) size ∙ bytes, t.2 ∙ ap (λ (l : List ℕ). Known (f (k.decode l))) content)
+
+  flags_says : (ident mask : ℕ) (f : ℕ → Record)
+      → ((a b c d : ℕ) → Says (8 ∷ ident ∷ 0 ∷ 0 ∷ a ∷ b ∷ c ∷ d ∷ []) (Known (f (bit_and (a + b * 256 + c * 65536 + d * 16777216) mask))))
+      → get_or s 1 0 ≡ ident → told (λ _ r. f r) (read_of (flags ident mask) s place) ≡ Ok m → Says (take (get_or s 0 0) s) m
+  flags_says ident mask f says id e =
+      let t = eight_says (flags ident mask) f refl refl id e in
+      as_said t.0 t.1 (says (get_or s 4 0) (get_or s 5 0) (get_or s 6 0) (get_or s 7 0))
 
   pair_says : {R : Type 0} (k : Layout R) (f : ℕ → R → Record) → k.size ≡ 6 → k.admits ≡ some_actor
       → ((lo hi a b : ℕ) → (lo + hi * 256 ≡ 0 → ⊥) → Says (6 ∷ k.ident ∷ lo ∷ hi ∷ a ∷ b ∷ []) (Known (f (lo + hi * 256) (k.decode (a ∷ b ∷ [])))))
@@ -166,16 +174,9 @@ module _ (s : List ℕ) (place : ℕ) (m : Message) (whole : broken s ≡ false)
 
   temperature_says : get_or s 1 0 ≡ 0x71 → told (λ _ r. Temperature r) (read_of temperature s place) ≡ Ok m → Says (take (get_or s 0 0) s) m
   temperature_says id e =
-      let t = seen temperature (λ _ r. Temperature r) s place m e in
-      let size : get_or s 0 0 ≡ 8 = t.0 in
-      let no_actor : word s 2 ≡ 0 = eqb-true _ _ t.1 in
-      let long = room in
-      let lo : get_or s 2 0 ≡ 0 = omega arith in
-      let hi : get_or s 3 0 ≡ 0 = omega arith in
-      let parts = front 8 s 0 (omega arith) in
-      let bytes : take 8 s ≡ 8 ∷ 0x71 ∷ 0 ∷ 0 ∷ get_or s 4 0 ∷ get_or s 5 0 ∷ get_or s 6 0 ∷ get_or s 7 0 ∷ [] = cc in
-      let spelled = ap (λ (n : ℕ). take n s) size ∙ bytes in
-      let said = t.2 ∙ ap (λ (l : List ℕ). Known (Temperature (temperature.decode l))) (front 4 s 4 (omega arith)) in
+      let t = eight_says temperature Temperature refl refl id e in
+      let spelled = t.0 in
+      let said = t.1 in
       ⊎_elim
       (λ valid.
       let one : get_or s 6 0 ≡ 1 = eqb-true _ _ valid in

@@ -35,34 +35,34 @@ impl Message {
         matches!(self, Message::Known(_))
     }
 
-    // Reads the message that begins `rest`. `rest` is what is left of a payload, from `place` on.
-    pub fn read(rest: &[u8], place: usize) -> Result<Message, Fault>
-        ensures answer { result ≡ message_of rest.now place }
-        ensures whole { OnOk result ((4 ≤ slice_index rest.now 0) × (slice_index rest.now 0 ≤ length rest.now)) }
+    // Reads the message that begins `bytes`. `bytes` is what is left of a payload, from `place` on.
+    pub fn read(bytes: &[u8], place: usize) -> Result<Message, Fault>
+        ensures answer { result ≡ message_of bytes.now place }
+        ensures whole { OnOk result ((4 ≤ slice_index bytes.now 0) × (slice_index bytes.now 0 ≤ length bytes.now)) }
     {
-        let &[len, id, _lo, _hi, ..] = rest else {
+        let &[len, id, _lo, _hi, ref _rest @ ..] = bytes else {
             return Err(Fault::Message(MessageFault::Broken, place));
         };
         // `kind::read` checks this again, since it can be called alone
-        if len < 4 || len as usize > rest.len() {
+        if len < 4 || len as usize > bytes.len() {
             return Err(Fault::Message(MessageFault::Broken, place));
         }
         let record = match id {
-            STATE_ID => Record::State(kind::read::<State>(rest, place)?.1),
-            CONTROL_ID => Record::Control(kind::read::<Control>(rest, place)?.1),
+            STATE_ID => Record::State(kind::read::<State>(bytes, place)?.1),
+            CONTROL_ID => Record::Control(kind::read::<Control>(bytes, place)?.1),
             EDIT_VALUE_ID => {
-                let (actor, target) = kind::read::<EditValue>(rest, place)?;
+                let (actor, target) = kind::read::<EditValue>(bytes, place)?;
                 Record::EditValue { actor, target }
             }
             REAL_VALUE_ID => {
-                let (actor, actual) = kind::read::<RealValue>(rest, place)?;
+                let (actor, actual) = kind::read::<RealValue>(bytes, place)?;
                 Record::RealValue { actor, actual }
             }
             Event::ID => {
-                let (actor, key) = kind::read::<Event>(rest, place)?;
+                let (actor, key) = kind::read::<Event>(bytes, place)?;
                 Record::Event { actor, key }
             }
-            Temperature::ID => Record::Temperature(kind::read::<Temperature>(rest, place)?.1),
+            Temperature::ID => Record::Temperature(kind::read::<Temperature>(bytes, place)?.1),
             other => return Ok(Message::Unknown(other)),
         };
         Ok(Message::Known(record))

@@ -2,8 +2,8 @@
 use Rattle.std.proofs.Common.{◌≡◌, ℕ, zero, suc, ◌<◌, ◌≤◌, Bool, true, false, cond, eqb, List, [], ◌∷◌, ◌++◌, length, take, drop, Some, None, Option, sym, refl, ap, ◌∙◌, append_assoc, arith}
 use Rattle.std.specs.Option.{option_map}
 use Rattle.std.proofs.lemmas.List.{length-append, take_all, take-append-le}
-use Rattle.hexadecimal.specs.Lines.{length_to}
-use Rattle.script.specs.Lists.{before, longer, numbers_in, parts_of}
+use Rattle.hexadecimal.specs.Lines.{begun_with, length_to}
+use Rattle.script.specs.Lists.{before, numbers_in, parts_of}
 use Rattle.script.specs.Numbers.{word_in}
 
 -- one entry more
@@ -22,10 +22,10 @@ first_part sep (b ∷ text) h = go (eqb b sep) h (first_part sep text)
   where
     go : (t : Bool) → cond t 0 (suc (length_to sep text)) < suc (length text)
         → (length_to sep text < length text → parts_of sep text ≡ take (length_to sep text) text ∷ parts_of sep (drop (suc (length_to sep text)) text))
-        → cond t ([] ∷ parts_of sep text) (longer b (parts_of sep text))
+        → cond t ([] ∷ parts_of sep text) (begun_with b (parts_of sep text))
         ≡ take (cond t 0 (suc (length_to sep text))) (b ∷ text) ∷ parts_of sep (drop (suc (cond t 0 (suc (length_to sep text)))) (b ∷ text))
     go true l ih = refl
-    go false l ih = ap (longer b) (ih (omega arith))
+    go false l ih = ap (begun_with b) (ih (omega arith))
 
 pub one_part : (sep : ℕ) (text : List ℕ) → length text ≤ length_to sep text → parts_of sep text ≡ text ∷ []
 unfolding length_to parts_of
@@ -33,9 +33,9 @@ one_part sep [] h = refl
 one_part sep (b ∷ text) h = go (eqb b sep) h (one_part sep text)
   where
     go : (t : Bool) → suc (length text) ≤ cond t 0 (suc (length_to sep text)) → (length text ≤ length_to sep text → parts_of sep text ≡ text ∷ [])
-        → cond t ([] ∷ parts_of sep text) (longer b (parts_of sep text)) ≡ (b ∷ text) ∷ []
+        → cond t ([] ∷ parts_of sep text) (begun_with b (parts_of sep text)) ≡ (b ∷ text) ∷ []
     go true l ih = absurd (omega arith)
-    go false l ih = ap (longer b) (ih (omega arith))
+    go false l ih = ap (begun_with b) (ih (omega arith))
 
 take_twice : (room : ℕ) (xs ys : List ℕ) → take room (take room xs ++ ys) ≡ take room (xs ++ ys)
 take_twice zero xs ys = refl

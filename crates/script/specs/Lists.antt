@@ -1,6 +1,7 @@
 -- Lists of actors: numbers with a comma between each two.
 use Rattle.std.specs.Prelude.{ℕ, cond, List, [], ◌∷◌, take, Some, None, Option, ◌==◌}
 use Rattle.std.specs.Option.{option_map}
+use Rattle.hexadecimal.specs.Lines.{begun_with}
 use Rattle.script.specs.Actors.{actors_of}
 use Rattle.script.specs.Numbers.{word_in}
 use Rattle.script.specs.declared.actors.Actors.{Actors}
@@ -8,14 +9,10 @@ use Rattle.script.specs.declared.actors.Actors.{Actors}
 abbrev pub comma : ℕ
 comma = 44
 
-abbrev pub longer : ℕ → List (List ℕ) → List (List ℕ)
-longer b [] = (b ∷ []) ∷ []
-longer b (part ∷ parts) = (b ∷ part) ∷ parts
-
 -- the parts between the separators, one more than there are separators
 unfoldable pub parts_of : ℕ → List ℕ → List (List ℕ)
 parts_of separator [] = [] ∷ []
-parts_of separator (b ∷ text) = cond (b == separator) ([] ∷ parts_of separator text) (longer b (parts_of separator text))
+parts_of separator (b ∷ text) = cond (b == separator) ([] ∷ parts_of separator text) (begun_with b (parts_of separator text))
 
 abbrev pub before : Option ℕ → Option (List ℕ) → Option (List ℕ)
 before None rest = None

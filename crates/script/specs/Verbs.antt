@@ -1,17 +1,14 @@
 -- The names of the calls.
-use Rattle.std.specs.Prelude.{ℕ, cond, List, [], ◌∷◌, Some, None, codes, Option}
+use Rattle.std.specs.Prelude.{ℕ, List, [], ◌∷◌, codes, Option}
+use Rattle.std.specs.Map.{lookup}
+use Rattle.std.specs.Option.{option_or}
 use Rattle.std.specs.Str.{bytes_eq}
 use Rattle.script.specs.declared.verb.Verb.{Verb}
 use Rattle.script.specs.declared.verb.Verb.TheVariants.{Open, Enrol, Actual, Target, Control, Take, Compose, Sent, Withheld, Marks, Word, Flags, Key, Reading}
 
--- the entry that stands under a name, where one does
-abbrev pub under_name : {A : Type 0} → List ℕ → List (List ℕ × A) → Option A
-under_name name [] = None
-under_name name (entry ∷ entries) = cond (bytes_eq name entry.0) (Some entry.1) (under_name name entries)
-
 abbrev pub setting_verb : List ℕ → Option Verb
 setting_verb name =
-    under_name name
+    lookup (bytes_eq name)
     ((codes "open", Open)
     ∷ (codes "enrol", Enrol)
     ∷ (codes "actual", Actual)
@@ -21,7 +18,7 @@ setting_verb name =
 
 abbrev pub packet_verb : List ℕ → Option Verb
 packet_verb name =
-    under_name name
+    lookup (bytes_eq name)
     ((codes "take", Take)
     ∷ (codes "compose", Compose)
     ∷ (codes "sent", Sent)
@@ -30,7 +27,7 @@ packet_verb name =
 
 abbrev pub question_verb : List ℕ → Option Verb
 question_verb name =
-    under_name name
+    lookup (bytes_eq name)
     ((codes "marks", Marks)
     ∷ (codes "word", Word)
     ∷ (codes "flags", Flags)
@@ -38,10 +35,6 @@ question_verb name =
     ∷ (codes "reading", Reading)
     ∷ [])
 
-abbrev pub or_else : {A : Type 0} → Option A → Option A → Option A
-or_else None o = o
-or_else (Some x) o = Some x
-
 -- Settings, packets, questions.
 abbrev pub verb_of : List ℕ → Option Verb
-verb_of name = or_else (setting_verb name) (or_else (packet_verb name) (question_verb name))
+verb_of name = option_or (setting_verb name) (option_or (packet_verb name) (question_verb name))

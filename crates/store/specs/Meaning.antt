@@ -1,5 +1,6 @@
 -- What an actor store means: a map from each known ActorID to its pair of actual and target value.
 use Rattle.std.specs.Prelude.{ℕ, Bool, true, false, cond, not, ◌&&◌, ℤ, pos, negsuc, Some, None, Ok, Err, Option, Result, ◌==◌, nat_lt}
+use Rattle.std.specs.Option.{ok_or}
 use Rattle.fault.specs.declared.Fault.{Fault}
 use Rattle.fault.specs.declared.Fault.TheVariants.{Store}
 use Rattle.fault.specs.declared.StoreFault.TheVariants as store
@@ -32,13 +33,9 @@ forbidden_value = Store store.ForbiddenValue 0
 abbrev pub value_answer : ℤ → Result Unit Fault
 value_answer v = cond (forbidden v) (Err forbidden_value) (Ok tt)
 
-abbrev pub pair_or : Option (ℤ × ℤ) → Result (ℤ × ℤ) Fault
-pair_or (Some p) = Ok p
-pair_or None = Err unknown_actor
-
 -- a read tells both values of a known actor
 abbrev pub read_answer : Known → ℕ → Result (ℤ × ℤ) Fault
-read_answer m a = pair_or (m a)
+read_answer m a = ok_or (m a) unknown_actor
 
 abbrev pub refusal : Option (ℤ × ℤ) → Bool → Result Unit Fault
 refusal None bad = Err unknown_actor

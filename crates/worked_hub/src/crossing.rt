@@ -18,7 +18,11 @@ fn crossing(rt: HostRuntime) -> Result<(), Fail> {
         &packet[22..28],
         [0x06_u8, 0x42, 0x01, 0x00, 0xDC, 0x00].as_slice()
     );
+    assert_eq!(rt; hub.actor_mark(7, 1), Ok(Mark::UnderWay));
+    assert_eq!(rt; hub.actor_mark(7, 2), Ok(Mark::UnderWay));
+    assert_eq!(rt; hub.control_mark(7), Ok(Mark::UnderWay));
     hub.set_target(1, 230)?;
+    assert_eq!(rt; hub.actor_mark(7, 1), Ok(Mark::Due));
     assert_eq!(rt; told(&mut hub, &packet), Ok((Arrival::Answer, 5)));
     assert_eq!(rt; hub.actor_mark(7, 1), Ok(Mark::Due));
     assert_eq!(rt; hub.actor_mark(7, 2), Ok(Mark::Settled));

@@ -85,6 +85,8 @@ fn counts(rt: HostRuntime) -> Result<(), Fail> {
 fn refused_descriptors(rt: HostRuntime) -> Result<(), Fail> {
     let mut hub = house()?;
     assert_eq!(rt; told(&mut hub, &EDIT[0..15]), Err((1, 0)));
+    // the length is looked at before anything in the payload
+    assert_eq!(rt; told(&mut hub, &[0; 1473]), Err((1, 0)));
     let mut id = EDIT;
     id[1] = 0x75;
     assert_eq!(rt; told(&mut hub, &id), Err((2, 0)));
@@ -94,6 +96,10 @@ fn refused_descriptors(rt: HostRuntime) -> Result<(), Fail> {
     let mut major = EDIT;
     major[5] = 0x03;
     assert_eq!(rt; told(&mut hub, &major), Err((4, 4)));
+    // any minor version passes
+    let mut minor = EDIT;
+    minor[4] = 0xFF;
+    assert_eq!(rt; told(&mut hub, &minor), Ok((Arrival::Event, 1)));
     // the project is looked at before the switch, and both before the messages
     let mut project = EDIT;
     project[9] = 0x13;
