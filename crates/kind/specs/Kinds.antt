@@ -33,6 +33,10 @@ flags ident mask = record {
 abbrev pub state : Layout ℕ
 state = flags 0x01 0x1F0F18FF
 
+-- bit 6 of State, InitRequest: the switch asks for everything
+abbrev pub asks_init : ℕ → Bool
+asks_init flags = flags / 64 % 2 == 1
+
 abbrev pub control : Layout ℕ
 control = flags 0x21 0x1F00FFBF
 

@@ -1,6 +1,6 @@
 // Two kinds of 32 bits under a mask: how a switch reports itself, and how it is told to behave.
-ghost use Rattle.std.specs.Prelude.{refl};
-ghost use Rattle.kind.specs.Kinds.{flags};
+ghost use Rattle.std.specs.Prelude.{◌≡◌, refl};
+ghost use Rattle.kind.specs.Kinds.{asks_init, flags};
 ghost use Rattle.kind.specs.Laws.{flags_lawful};
 
 use crate::message::Kind;
@@ -14,6 +14,17 @@ pub const CONTROL_ID: u8 = 0x21;
 const STATE_BITS: u32 = 0x1F0F18FF;
 
 pub const CONTROL_BITS: u32 = 0x1F00FFBF;
+
+// The bit of State by which a switch asks for everything.
+const INIT_REQUEST: u32 = 1 << 6;
+
+// Whether a switch with these flags asks for everything.
+pub fn asks_init(flags: u32) -> bool
+    ensures { result ≡ asks_init flags }
+{
+    // by division, as the rules' definition tests the bit
+    flags / INIT_REQUEST % 2 == 1
+}
 
 // 32 bits, of which those of the mask mean something.
 #[derive(Clone, Copy, PartialEq, Eq, Debug)]

@@ -10,7 +10,7 @@ mod message;
 mod readings;
 mod values;
 
-pub use flags::{CONTROL_BITS, CONTROL_ID, Control, Flags, STATE_ID, State};
+pub use flags::{CONTROL_BITS, CONTROL_ID, Control, Flags, STATE_ID, State, asks_init};
 pub use keys::Event;
 pub use message::{Kind, read, write};
 pub use readings::Temperature;

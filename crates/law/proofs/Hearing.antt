@@ -4,6 +4,7 @@ use Rattle.std.specs.Option.{option_map}
 use Rattle.std.specs.List.{AllByRecursion}
 use Rattle.std.proofs.lemmas.Bool.{and_parts, cond_both, eq-eqb, true≢false}
 use Rattle.fault.specs.declared.Fault.{Fault}
+use Rattle.kind.specs.Kinds.{asks_init}
 use Rattle.packet.specs.declared.records.Message.{Message}
 use Rattle.packet.specs.declared.records.Message.TheVariants as message
 use Rattle.packet.specs.declared.records.Record.{Record}
@@ -16,7 +17,7 @@ use Rattle.model.specs.declared.mark.Mark.TheVariants.{Due}
 use Rattle.model.specs.declared.told.Report.{Report}
 use Rattle.model.specs.Models.{HubModel, SwitchModel, all_moved, change_switch, find_switch, hub_after, lists_actor, moved_item, touched, touched_item, with_report}
 use Rattle.model.specs.Settings.{granted, with_value}
-use Rattle.model.specs.Taking.{asks_init, heard_message, heard_record, message_listed, record_listed, with_flags}
+use Rattle.model.specs.Taking.{heard_message, heard_record, message_listed, record_listed, with_flags}
 use Rattle.law.specs.Values.{Any, Edits, EditsRecord, Inits, InitsRecord, Slot, note_all, note_message, slot}
 use Rattle.law.proofs.Elements.{all_mapped}
 use Rattle.law.proofs.Held.{Recalls, put_known, put_recalls}

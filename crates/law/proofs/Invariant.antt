@@ -20,6 +20,13 @@ use Rattle.law.proofs.Brought.{Agrees, Full, Silent}
 use Rattle.law.proofs.Held.{Lawful, Recalls}
 use Rattle.law.proofs.Written.{ActorFits}
 
+-- what every site has: its words are words of 16 bits
+pub record SiteFits (site : Site) : Type 0 where
+  pub version : site.version < 2 ^ 16
+  pub project : site.project < 2 ^ 16
+  pub firmware : site.firmware < 2 ^ 16
+  pub design : site.design < 2 ^ 16
+
 -- the number of the packet of this index
 unfoldable pub number_of : ℕ → ℕ
 number_of index = suc (index % 65535)

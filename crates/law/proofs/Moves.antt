@@ -21,7 +21,6 @@ use Rattle.model.specs.Taking.{answered, take_payload}
 use Rattle.law.specs.Values.{Any, Edits, note_all, slot, spoken}
 use Rattle.law.specs.World as world
 use Rattle.law.specs.World.{End, InTime, Move, Payload, Repeats, Run, World, accepts, answer_to, issued, messages_in, other_event, packet_now, payload_now, says, turn_of, with_end, with_hub, with_line_to, with_past}
-use Rattle.law.specs.Law.{SiteFits}
 use Rattle.law.proofs.Acts.{here_loses_payload, here_restarted, here_says, here_turned}
 use Rattle.law.proofs.Answers.{head_fine, here_answered, kept_accepted, lines_accepted, settled_by, tells_hits}
 use Rattle.law.proofs.Changes.{kept_control, kept_init, kept_report, kept_set}
@@ -30,7 +29,7 @@ use Rattle.law.proofs.Flights.{number_fits}
 use Rattle.law.proofs.Granted.{Entry, Issued, compose_is, control_is, enrol_is, refused_leaves, sent_is, set_is, withheld_is}
 use Rattle.law.proofs.Hearing.{Hits, hear_hits, hear_keeps, hear_known, hear_recalls}
 use Rattle.law.proofs.Held.{Lawful, put_lawful, put_recalls}
-use Rattle.law.proofs.Invariant.{Enrolled, Here, Holds, ItemFine, SwitchFine, number_in, number_of}
+use Rattle.law.proofs.Invariant.{Enrolled, Here, Holds, ItemFine, SiteFits, SwitchFine, number_in, number_of}
 use Rattle.law.proofs.Items.{listed_entry}
 use Rattle.law.proofs.Packets.{Fresh, here_composed, here_delivered, here_lost, here_sent, here_withheld}
 use Rattle.law.proofs.Switches.{KeepsId, find_append, find_map, one_end, one_step, one_switch}

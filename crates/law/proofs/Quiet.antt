@@ -2,6 +2,7 @@
 use Rattle.std.proofs.Common.{◌≡◌, ℕ, Bool, true, false, cond, eqb, List, [], ◌∷◌, map, ℤ, Some, None, Option, sym, refl, ap, ◌∙◌, subst, ap₂, inl, inr, ⊎_elim}
 use Rattle.std.specs.Option.{option_map}
 use Rattle.std.proofs.lemmas.Bool.{cases_eq, not_from_false, or_left, or_right}
+use Rattle.kind.specs.Kinds.{asks_init}
 use Rattle.packet.specs.declared.records.Message.{Message}
 use Rattle.packet.specs.declared.records.Message.TheVariants as message
 use Rattle.packet.specs.declared.records.Record.{Record}
@@ -12,7 +13,7 @@ use Rattle.model.specs.declared.item.Item.{Item}
 use Rattle.model.specs.declared.mark.Change.TheVariants.{Changed}
 use Rattle.model.specs.Models.{HubModel, SwitchModel, all_moved, at_switch, find_switch, hub_after, lists_actor, moved_item, touched, touched_item}
 use Rattle.model.specs.Settings.{granted, with_value}
-use Rattle.model.specs.Taking.{asks_init, heard_message, heard_record, with_flags, with_state}
+use Rattle.model.specs.Taking.{heard_message, heard_record, with_flags, with_state}
 use Rattle.law.specs.Values.{Any, Edits, EditsRecord, Inits, InitsRecord}
 use Rattle.law.proofs.Switches.{KeepsId, find_at_other, find_at_same, find_map}
 use Rattle.law.proofs.Taken.{hear_all}

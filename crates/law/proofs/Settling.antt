@@ -23,13 +23,13 @@ use Rattle.law.specs.Values.{Any, Edits, Inits, spoken}
 use Rattle.law.specs.World as world
 use Rattle.law.specs.World.{About, End, Move, Packet, Payload, World, accepts, delivers, discarded, issued, joined, lost, packet_now, with_line_to}
 use Rattle.law.specs.Law as law
-use Rattle.law.specs.Law.{Lists, Quiet, Quietly, Settling, SiteFits}
+use Rattle.law.specs.Law.{Lists, Quiet, Quietly, Settling}
 use Rattle.law.proofs.Answers.{head_fine, settled_by}
 use Rattle.law.proofs.Elements.{all_then, all_mapped, some_number}
 use Rattle.law.proofs.Flights.{between_below, between_last, between_le, delivered_below, number≢0}
 use Rattle.law.proofs.Granted.{compose_is, control_is, enrol_is, refused_leaves, sent_is, set_is, withheld_is}
 use Rattle.law.proofs.Held.{Lawful}
-use Rattle.law.proofs.Invariant.{AboutFine, Between, Delivered, Enrolled, Here, Holds, SwitchFine, flight, number_in, number_of}
+use Rattle.law.proofs.Invariant.{AboutFine, Between, Delivered, Enrolled, Here, Holds, SiteFits, SwitchFine, flight, number_in, number_of}
 use Rattle.law.proofs.Marks.{not_due_composed, settled_answered, settled≢due}
 use Rattle.law.proofs.Moves.{keep, keep_run}
 use Rattle.law.proofs.Quiet.{Kept, hear_quiet, kept_same, kept_untouched}

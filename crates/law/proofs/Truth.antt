@@ -16,9 +16,9 @@ use Rattle.model.specs.Questions.{actor_mark, not_listed}
 use Rattle.model.specs.Settings.{at_enrolled}
 use Rattle.law.specs.Values.{last_accepted, slot}
 use Rattle.law.specs.World.{End}
-use Rattle.law.specs.Law.{Excused, ReportedOutstanding, Shows, SiteFits, Truth, opening}
+use Rattle.law.specs.Law.{Excused, ReportedOutstanding, Shows, Truth, opening}
 use Rattle.law.proofs.Held.{Lawful}
-use Rattle.law.proofs.Invariant.{Enrolled, Holds, ItemFine, MarkFine, SwitchFine}
+use Rattle.law.proofs.Invariant.{Enrolled, Holds, ItemFine, MarkFine, SiteFits, SwitchFine}
 use Rattle.law.proofs.Moves.{keep_run}
 
 pub holds_at_opening : (site : Site) (st : store.Known) → Lawful st → Holds site (opening site st)

@@ -113,13 +113,6 @@ Settling site st =
     → (told : Arrival) (count : ℕ) (k : HubModel) → take_payload u.hub p.bytes ≡ Ok ((told, count), k)
     → outstanding_at k s ≡ Ok false
 
--- The words that a hub is opened with are words of 16 bits.
-pub record SiteFits (site : Site) : Type 0 where
-  pub version : site.version < 2 ^ 16
-  pub project : site.project < 2 ^ 16
-  pub firmware : site.firmware < 2 ^ 16
-  pub design : site.design < 2 ^ 16
-
 -- The law, whole, of a hub that is opened with these words over a store with this meaning.
 unfoldable pub TruthfulSwitches : Site → store.Known → Type 0
 TruthfulSwitches site st = Truth site st × Dealing × Settling site st

@@ -1,6 +1,7 @@
 -- Values of actors: which were accepted, and what a switch shows.
 use Rattle.std.specs.Prelude.{◌≡◌, ℕ, Bool, true, false, cond, ◌&&◌, ◌⊎◌, List, [], ◌∷◌, map, ℤ, Some, None, Ok, Err, Option, Result, ◌==◌}
 use Rattle.fault.specs.declared.Fault.{Fault}
+use Rattle.kind.specs.Kinds.{asks_init}
 use Rattle.packet.specs.declared.records.Message.{Message}
 use Rattle.packet.specs.declared.records.Message.TheVariants.{Known, Unknown}
 use Rattle.packet.specs.declared.records.Record.{Record}
@@ -12,7 +13,6 @@ use Rattle.store.specs.declared.meaning.Half.TheVariants.{Actual, Target}
 use Rattle.store.specs.Meaning as store
 use Rattle.store.specs.Meaning.{lawful}
 use Rattle.model.specs.Composing.{values_of}
-use Rattle.model.specs.Taking.{asks_init}
 
 -- something holds of some element
 abbrev pub Any : {A : Type 0} → (A → Type 0) → List A → Type 0

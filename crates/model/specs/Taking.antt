@@ -4,6 +4,7 @@ use Rattle.fault.specs.declared.ActorFault.TheVariants.{NotListed}
 use Rattle.fault.specs.declared.Fault.{Fault}
 use Rattle.fault.specs.declared.Fault.TheVariants as fault
 use Rattle.fault.specs.declared.FrameFault.TheVariants.{Project, Switch}
+use Rattle.kind.specs.Kinds.{asks_init}
 use Rattle.packet.specs.declared.records.Message.{Message}
 use Rattle.packet.specs.declared.records.Message.TheVariants.{Known, Unknown}
 use Rattle.packet.specs.declared.records.Record.{Record}
@@ -21,10 +22,6 @@ use Rattle.model.specs.Models.{HubModel, Step, SwitchModel, all_moved, change_sw
 use Rattle.model.specs.Settings.{set_value}
 
 -- Events.
-
--- InitRequest is bit 6 of the flags
-abbrev pub asks_init : ℕ → Bool
-asks_init flags = flags / 64 % 2 == 1
 
 abbrev pub with_flags : ℕ → SwitchModel → SwitchModel
 with_flags flags m = with_report (record { flags = flags; key = m.report.key; reading = m.report.reading }) m

@@ -8,9 +8,6 @@ use crate::items;
 use crate::memory::Switch;
 use model::{Change, KeyPress, Numbers};
 
-// Bit 6 of the flags, InitRequest, by which a switch asks for everything.
-const INIT_REQUEST: u32 = 1 << 6;
-
 // After the last package number comes 1, since 0 marks an event.
 fn number_after(number: u16) -> u16
     ensures { result ≡ number_after number }
@@ -47,8 +44,7 @@ impl Switch {
         ensures { self.new ≡ with_state flags self.old }
     {
         self.report.flags = flags;
-        // by division, as the rules' definition tests the bit
-        if flags / INIT_REQUEST % 2 == 1 {
+        if kind::asks_init(flags) {
             self.move_all(Change::Changed);
         }
     }

@@ -1,5 +1,5 @@
 -- What is shown of a packet and of its messages.
-use Rattle.std.specs.Prelude.{ℕ, zero, suc, Bool, true, false, not, List, [], ℤ, pos, negsuc, Some, None, codes, Option, ◌==◌, bit_and}
+use Rattle.std.specs.Prelude.{ℕ, zero, suc, Bool, true, false, List, [], ℤ, pos, negsuc, Some, None, codes, Option}
 use Rattle.packet.specs.declared.records.Record.{Record}
 use Rattle.packet.specs.declared.records.Record.TheVariants.{State, Control, EditValue, RealValue, Event, Temperature}
 
@@ -16,10 +16,6 @@ is_below (negsuc n) = true
 abbrev pub sign_of : Bool → List ℕ
 sign_of false = []
 sign_of true = codes "-"
-
--- bit 6 of State is InitRequest
-abbrev pub asks_init : ℕ → Bool
-asks_init flags = not (bit_and flags 64 == 0)
 
 abbrev pub name_of : Record → List ℕ
 name_of (State flags) = codes "State"

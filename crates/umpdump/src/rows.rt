@@ -1,19 +1,10 @@
 // One message on one row: its offset, its kind, its actor and what it says, in columns.
 ghost use Rattle.std.specs.Prelude.{◌≡◌};
-ghost use Rattle.umpdump.specs.Shown.{actor_of, asks_init, name_of};
+ghost use Rattle.umpdump.specs.Shown.{actor_of, name_of};
 
 use crate::degrees::Degrees;
 use packet::{Message, Record};
 use std::fmt;
-
-// The bit of State by which a switch that has restarted asks for all values: the hub's too, but what only shows a capture stands on no crate of the hub's.
-const INIT_REQUEST: u32 = 0x40;
-
-fn asks_init(flags: u32) -> bool
-    ensures { result ≡ asks_init flags }
-{
-    flags & INIT_REQUEST != 0
-}
 
 // A text: a `Display` for `packet`'s type would need a wrapper here, and `pad` for the column.
 fn kind_name(record: Record) -> &'static str
@@ -48,7 +39,7 @@ struct Value(Record);
 impl fmt::Display for Value {
     fn fmt<W: fmt::Write>(&self, f: &mut fmt::Formatter<W>) -> fmt::Result {
         match self.0 {
-            Record::State(flags) if asks_init(flags) => write!(f, "flags {flags:08X}  InitRequest"),
+            Record::State(flags) if kind::asks_init(flags) => write!(f, "flags {flags:08X}  InitRequest"),
             Record::State(flags) => write!(f, "flags {flags:08X}"),
             Record::Control(flags) => write!(f, "flags {flags:08X}"),
             Record::EditValue { target, .. } => write!(f, "target {target}"),
