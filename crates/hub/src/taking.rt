@@ -9,7 +9,7 @@ ghost use Rattle.hub.specs.Surveys.{Heard, heard_all, noted, survey_of};
 use crate::memory::Hub;
 use fault::{ActorFault, Fault, FrameFault};
 use model::Arrival;
-use packet::{Cursor, Descriptor, Message, Record, Sort};
+use packet::{Cursor, Descriptor, Message, Packet, Record, Sort};
 use store::meaning::{ActorStore, Half};
 use switch::Switch;
 
@@ -137,14 +137,20 @@ impl<S: ActorStore> Hub<S> {
         let switch = self
             .find(words.switch)
             .ok_or(Fault::Frame(FrameFault::Switch, 12))?;
-        let survey = check_messages(switch, payload)?;
         match words.sort() {
-            Sort::Event => self.take_event(words.switch, payload, survey),
-            Sort::Answer(number) if switch.numbers().awaited == Some(number) => {
-                self.change(words.switch, |switch| switch.answer());
-                Ok((Arrival::Answer, survey.understood))
+            Sort::Event => {
+                let survey = check_messages(switch, payload)?;
+                self.take_event(words.switch, payload, survey)
             }
-            Sort::Answer(_) => Ok((Arrival::Stale, survey.understood)),
+            Sort::Answer(number) => {
+                // which actors an answer names is not looked at
+                let Packet { understood, .. } = Packet::read(payload)?;
+                if switch.numbers().awaited != Some(number) {
+                    return Ok((Arrival::Stale, understood));
+                }
+                self.change(words.switch, |switch| switch.answer());
+                Ok((Arrival::Answer, understood))
+            }
         }
     }
 }
