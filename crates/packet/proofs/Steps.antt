@@ -1,10 +1,10 @@
 -- The messages of a payload, one step after another.
-use Rattle.std.proofs.Common.{◌≡◌, ℕ, zero, suc, pred, ◌+◌, ◌-◌, ◌<◌, ◌≤◌, Bool, cond, List, [], ◌∷◌, length, get_or, take, drop, Ok, Err, Result, sym, refl, ap, ◌∙◌, add-zero, arith}
+use Rattle.std.proofs.Common.{◌≡◌, ℕ, zero, suc, pred, ◌+◌, ◌-◌, ◌<◌, ◌≤◌, cond, List, [], ◌∷◌, length, get_or, take, drop, Ok, Err, Result, sym, refl, ap, ◌∙◌, add-zero, arith}
 use Rattle.std.proofs.lemmas.List.{take_rest}
 use Rattle.fault.specs.declared.Fault.{Fault}
 use Rattle.packet.specs.declared.records.Message.{Message}
 use Rattle.packet.specs.Messages.{followed, is_known, message_of, messages_of}
-use Rattle.packet.specs.Reading.{count_of}
+use Rattle.packet.specs.Reading.{count_of, counted_on}
 
 skipped : (s : List ℕ) (n place : ℕ) → n ≤ length s → messages_of s n place ≡ messages_of (drop n s) 0 (place + n)
 unfolding messages_of
@@ -34,20 +34,17 @@ stops [] place e h p = absurd (omega arith)
 stops (x ∷ s) place e h p = ap (λ r. followed place r (messages_of s (pred x) (place + 1))) p
 
 -- one message more in a count
-abbrev pub plus : Bool → Result ℕ Fault → Result ℕ Fault
-plus b (Ok n) = Ok (cond b 1 0 + n)
-plus b (Err e) = Err e
-
-count_followed : (place : ℕ) (m : Message) (ms : Result (List (ℕ × Message)) Fault) → count_of (followed place (Ok m) ms) ≡ plus (is_known m) (count_of ms)
-count_followed place m (Ok ms) = refl
-count_followed place m (Err e) = refl
+count_followed : (before place : ℕ) (m : Message) (ms : Result (List (ℕ × Message)) Fault)
+    → counted_on before (count_of (followed place (Ok m) ms)) ≡ counted_on (before + cond (is_known m) 1 0) (count_of ms)
+count_followed before place m (Ok ms) = ap Ok (omega arith)
+count_followed before place m (Err e) = refl
 
 -- a message and the count of what follows it, as the reader hands the rest on
-pub one_more : (s : List ℕ) (place n : ℕ) (m : Message) (more : Result ℕ Fault) → n ≡ get_or s 0 0 → Ok m ≡ message_of s place → 4 ≤ n → n ≤ length s
-    → more ≡ count_of (messages_of (take (length s - n) (drop n s)) 0 (place + n)) → plus (is_known m) more ≡ count_of (messages_of s 0 place)
-one_more s place n m more e p least whole q =
-    let rest : more ≡ count_of (messages_of (drop n s) 0 (place + n)) = q ∙ ap (λ (l : List ℕ). count_of (messages_of l 0 (place + n))) (take_rest s n) in
-    let same : more ≡ count_of (messages_of (drop (get_or s 0 0) s) 0 (place + get_or s 0 0)) = rest ∙ ap (λ (i : ℕ). count_of (messages_of (drop i s) 0 (place + i))) e in
-    ap (plus (is_known m)) same
-    ∙ sym (ap count_of (one_then s place (omega arith) (omega arith) ∙ ap (λ x. followed place x (messages_of (drop (get_or s 0 0) s) 0 (place + get_or s 0 0))) (sym p))
-    ∙ count_followed place m (messages_of (drop (get_or s 0 0) s) 0 (place + get_or s 0 0)))
+pub one_more : (s : List ℕ) (place before n so_far : ℕ) (m : Message) → n ≡ get_or s 0 0 → so_far ≡ before + cond (is_known m) 1 0 → Ok m ≡ message_of s place → 4 ≤ n → n ≤ length s
+    → counted_on so_far (count_of (messages_of (take (length s - n) (drop n s)) 0 (place + n))) ≡ counted_on before (count_of (messages_of s 0 place))
+one_more s place before n so_far m e more p least whole =
+    ap (λ (l : List ℕ). counted_on so_far (count_of (messages_of l 0 (place + n)))) (take_rest s n)
+    ∙ ap (λ (i : ℕ). counted_on so_far (count_of (messages_of (drop i s) 0 (place + i)))) e
+    ∙ ap (λ (k : ℕ). counted_on k (count_of (messages_of (drop (get_or s 0 0) s) 0 (place + get_or s 0 0)))) more
+    ∙ sym (ap (λ r. counted_on before (count_of r)) (one_then s place (omega arith) (omega arith) ∙ ap (λ x. followed place x (messages_of (drop (get_or s 0 0) s) 0 (place + get_or s 0 0))) (sym p))
+    ∙ count_followed before place m (messages_of (drop (get_or s 0 0) s) 0 (place + get_or s 0 0)))

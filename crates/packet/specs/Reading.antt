@@ -1,5 +1,5 @@
 -- A whole payload: its descriptor, then its messages.
-use Rattle.std.specs.Prelude.{ℕ, List, drop, Ok, Err, Result}
+use Rattle.std.specs.Prelude.{ℕ, ◌+◌, List, drop, Ok, Err, Result}
 use Rattle.fault.specs.declared.Fault.{Fault}
 use Rattle.packet.specs.declared.records.Message.{Message}
 use Rattle.packet.specs.declared.words.Descriptor.{Descriptor}
@@ -30,3 +30,8 @@ packet_of (Ok p) = Ok (record { descriptor = p.0; understood = understood p.1 })
 abbrev pub count_of : Result (List (ℕ × Message)) Fault → Result ℕ Fault
 count_of (Err e) = Err e
 count_of (Ok ms) = Ok (understood ms)
+
+-- a count, with those that came before
+abbrev pub counted_on : ℕ → Result ℕ Fault → Result ℕ Fault
+counted_on before (Err e) = Err e
+counted_on before (Ok n) = Ok (before + n)

@@ -1,8 +1,8 @@
 // A whole payload, checked from its first byte to its last in one pass, where it lies.
-ghost use Rattle.std.specs.Prelude.{◌≡◌, ◌+◌, ◌^◌, ◌<◌, ◌≤◌, length, IfOk};
+ghost use Rattle.std.specs.Prelude.{◌≡◌, ◌+◌, ◌^◌, ◌<◌, ◌≤◌, length};
 ghost use Rattle.packet.specs.Grammar.{Grammar};
 ghost use Rattle.packet.specs.Messages.{messages_of};
-ghost use Rattle.packet.specs.Reading.{count_of, messages_from, packet_of, reading_of};
+ghost use Rattle.packet.specs.Reading.{count_of, counted_on, messages_from, packet_of, reading_of};
 
 use crate::records::Message;
 use crate::words::{DESCRIPTOR_LEN, Descriptor};
@@ -15,23 +15,23 @@ pub struct Packet {
     pub understood: usize,
 }
 
-// How many messages of `rest` are understood, if all of it reads. `rest` is what is left of a payload, from `place` on: what follows its first message
-// is handed on, from the next one's first byte.
-fn count_understood(rest: &[u8], place: usize) -> Result<usize, Fault>
-    requires { place + length rest.now < 2 ^ 63 }
-    ensures answer { result ≡ count_of (messages_of rest.now 0 place) }
-    ensures few { IfOk result (λ n. n ≤ length rest.now) }
+// How many messages are understood, of `rest` and of the messages before it, if all of `rest` reads. `rest` is what is left of a payload, from `place` on:
+// what follows its first message is handed on, from the next one's first byte. The count goes along, so that no call waits for another.
+fn count_understood(rest: &[u8], place: usize, before: usize) -> Result<usize, Fault>
+    requires place { place + length rest.now < 2 ^ 63 }
+    requires before { before + length rest.now < 2 ^ 63 }
+    ensures { result ≡ counted_on before (count_of (messages_of rest.now 0 place)) }
 {
     let &[len, ..] = rest else {
-        return Ok(0);
+        return Ok(before);
     };
     let message = Message::read(rest, place)?;
-    let more = count_understood(&rest[len as usize..], place + len as usize)?;
-    if message.is_known() {
-        Ok(more + 1)
+    let so_far = if message.is_known() {
+        before + 1
     } else {
-        Ok(more)
-    }
+        before
+    };
+    count_understood(&rest[len as usize..], place + len as usize, so_far)
 }
 
 // How many messages behind the descriptor are understood, if all of them read.
@@ -40,7 +40,7 @@ fn count_behind(payload: &[u8]) -> Result<usize, Fault>
     requires most { length payload.now ≤ 1472 }
     ensures { result ≡ count_of (messages_from payload.now 16) }
 {
-    count_understood(&payload[DESCRIPTOR_LEN..], DESCRIPTOR_LEN)
+    count_understood(&payload[DESCRIPTOR_LEN..], DESCRIPTOR_LEN, 0)
 }
 
 // Nothing runs here: it only states the law at this payload, for `Packet::read` to promise.

@@ -2,7 +2,7 @@
 ghost use Rattle.std.specs.Prelude.{◌≡◌, map};
 ghost use Rattle.model.specs.Models.{any_outstanding, moved_item, touched_item};
 
-use model::{Change, Item, Mark};
+use model::{Change, Item};
 
 // Moves every item.
 pub(crate) fn move_all(items: &mut [Item], change: Change)
@@ -13,24 +13,14 @@ pub(crate) fn move_all(items: &mut [Item], change: Change)
     }
 }
 
-// The mark of an item once the values of this actor have changed. It is told, and written in any case, so that the loop below
-// has no branch and takes several items at once.
-fn touched_mark(item: Item, actor: u16) -> Mark
-    ensures { result ≡ (touched_item actor item).mark }
-{
-    let mut mark = item.mark;
-    if item.actor == actor {
-        mark.note(Change::Changed);
-    }
-    mark
-}
-
 // The item of this actor, if there is one, becomes due.
 pub(crate) fn touch(items: &mut [Item], actor: u16)
     ensures { items.new ≡ map (touched_item actor) items.old }
 {
     for item in items.iter_mut() {
-        item.mark = touched_mark(*item, actor);
+        if item.actor == actor {
+            item.mark.note(Change::Changed);
+        }
     }
 }
 

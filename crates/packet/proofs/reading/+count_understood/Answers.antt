@@ -1,38 +1,28 @@
-use Rattle.std.proofs.Common.{◌≡◌, ◌+◌, cond, length, Ok, sym, refl, ap, ◌∙◌, arith, rules}
-use Rattle.std.proofs.lemmas.Result.{err_from_is_err_and, IfOk-from_err}
-use Rattle.packet.specs.Reading.{count_of}
+use Rattle.std.proofs.Common.{◌≡◌, ℕ, ◌+◌, cond, Ok, sym, refl, ap, ◌∙◌, add-zero, arith}
+use Rattle.std.proofs.lemmas.Result.{err_from_is_err_and}
+use Rattle.packet.specs.Messages.{is_known}
+use Rattle.packet.specs.Reading.{count_of, counted_on}
 use Rattle.packet.proofs.Steps.{none_left, one_more, stops}
 use Rattle.packet.proofs.reading.+count_understood.Goals as goal
+use Rattle.packet.proofs.reading.+count_understood.Goals.{then-is_known, else-is_known}
 
 pub returns-in_default : goal.returns-in_default
 returns-in_default t c =
-    let e : length c.args.rest.now ≡ 0 = search rules in
-    record { answer = sym (ap count_of (none_left c.args.rest.now c.args.place e)); few = omega arith }
+    let none = ap (λ r. counted_on c.args.before (count_of r)) (none_left c.args.rest.now c.args.place (omega (arith, c.in_default.len_below))) in
+    ap Ok (omega arith) ∙ sym none
 
 pub returns-in_err-message : goal.returns-in_err-message
 returns-in_err-message t c =
     let p = err_from_is_err_and c.from_residual.result c.from_residual.ensures.1 in
     let e = c.in_err-message.ensures.answer in
-    let m = stops c.args.rest.now c.args.place c.in_err-message.field-0.0 (search rules) (sym e) in
-    record { answer = rw (p.1, p.2) (sym (ap count_of m)); few = IfOk-from_err _ _ c.from_residual.ensures.0 }
+    let m = stops c.args.rest.now c.args.place c.in_err-message.field-0.0 (omega (arith, c.in-len1-up.len_at_least)) (sym e) in
+    rw (p.1, p.2) (sym (ap (λ r. counted_on c.args.before (count_of r)) m))
 
-pub returns-in_err-more : goal.returns-in_err-more
-returns-in_err-more t c =
-    let p = err_from_is_err_and c.from_residual-in_err-more.result c.from_residual-in_err-more.ensures.1 in
+pub returns : goal.returns
+returns t c =
     let whole = c.in_ok-message.ensures.whole in
-    let m = one_more c.args.rest.now c.args.place _ c.in_ok-message.message _ refl c.in_ok-message.ensures.answer whole.0 whole.1 c.in_err-more.ensures.answer in
-    record { answer = rw (p.1, p.2) m; few = IfOk-from_err _ _ c.from_residual-in_err-more.ensures.0 }
-
-pub returns-then-is_known : goal.returns-then-is_known
-returns-then-is_known t c =
-    let whole = c.in_ok-message.ensures.whole in
-    let m = one_more c.args.rest.now c.args.place _ c.in_ok-message.message _ refl c.in_ok-message.ensures.answer whole.0 whole.1 c.in_ok-more.ensures.answer in
-    let one = ap (λ b. Ok (cond b 1 0 + c.in_ok-more.more)) c.if-is_known.ensures in
-    record { answer = ap Ok (omega arith) ∙ one ∙ m; few = search rules }
-
-pub returns-else-is_known : goal.returns-else-is_known
-returns-else-is_known t c =
-    let whole = c.in_ok-message.ensures.whole in
-    let m = one_more c.args.rest.now c.args.place _ c.in_ok-message.message _ refl c.in_ok-message.ensures.answer whole.0 whole.1 c.in_ok-more.ensures.answer in
-    let one = ap (λ b. Ok (cond b 1 0 + c.in_ok-more.more)) c.if-is_known.ensures in
-    record { answer = ap Ok (omega arith) ∙ one ∙ m; few = search rules }
+    let more : c.if-is_known.so_far ≡ c.args.before + cond (is_known c.in_ok-message.message) 1 0 = elim c.if-is_known.branch [
+      | then-is_known w ↦ w.so_far-is ∙ ap (λ b. c.args.before + cond b 1 0) w.if-is_known.ensures
+      | else-is_known w ↦ w.so_far-is ∙ sym (add-zero c.args.before) ∙ ap (λ b. c.args.before + cond b 1 0) w.if-is_known.ensures
+    ] in
+    c.count_understood.ensures ∙ one_more c.args.rest.now c.args.place c.args.before _ _ c.in_ok-message.message refl more c.in_ok-message.ensures.answer whole.0 whole.1
