@@ -1,6 +1,6 @@
 // Taking a payload: one pass that checks all of it, then one that applies it, where it lies.
 ghost use Rattle.std.specs.Prelude.{◌≡◌, ◌^◌, ◌<◌, ◌≤◌, true, length, is_ok, OnSome};
-ghost use Rattle.packet.specs.Reading.{messages_from};
+ghost use Rattle.packet.specs.Reading.{count_of, messages_from};
 ghost use Rattle.model.specs.Models.{answer_of, hub_after};
 ghost use Rattle.model.specs.Taking.{event_unless, heard_message, message_listed, take_payload};
 ghost use Rattle.hub.specs.Memory.{hub_model};
@@ -9,7 +9,7 @@ ghost use Rattle.hub.specs.Surveys.{Heard, heard_all, noted, survey_of};
 use crate::memory::Hub;
 use fault::{ActorFault, Fault, FrameFault};
 use model::Arrival;
-use packet::{Cursor, Descriptor, Message, Packet, Record, Sort};
+use packet::{Cursor, Descriptor, Message, Record, Sort};
 use store::meaning::{ActorStore, Half};
 use switch::Switch;
 
@@ -58,6 +58,23 @@ fn check_messages(switch: &Switch, payload: &[u8]) -> Result<Survey, Fault>
         survey.note(switch, place, message);
     }
     Ok(survey)
+}
+
+// How many messages of an answer are understood: every one must read, and which actors they name is not looked at.
+// By a cursor and not by `Packet::read`, whose calls go as deep as there are messages.
+fn count_messages(payload: &[u8]) -> Result<usize, Fault>
+    requires { length payload.now ≤ 1472 }
+    ensures { result ≡ count_of (messages_from payload.now 16) }
+{
+    let mut cursor = Cursor::new(payload);
+    // counts messages, and no index
+    let mut understood = 0;
+    while let Some((_, message)) = cursor.next()? {
+        if message.is_known() {
+            understood += 1;
+        }
+    }
+    Ok(understood)
 }
 
 // The next message of a payload whose messages all read.
@@ -143,8 +160,7 @@ impl<S: ActorStore> Hub<S> {
                 self.take_event(words.switch, payload, survey)
             }
             Sort::Answer(number) => {
-                // which actors an answer names is not looked at
-                let Packet { understood, .. } = Packet::read(payload)?;
+                let understood = count_messages(payload)?;
                 if switch.numbers().awaited != Some(number) {
                     return Ok((Arrival::Stale, understood));
                 }
