@@ -1,6 +1,6 @@
 -- The law is not empty: runs in which a switch is enrolled and told of a new target, answers, and has nothing outstanding.
-use Rattle.std.proofs.Common.{◌≡◌, ℕ, false, [], ◌∷◌, replicate, pos, Some, Ok, refl, inl, arith, lit<}
-use Rattle.packet.specs.declared.records.Record.TheVariants.{Control, EditValue, RealValue}
+use Rattle.std.proofs.Common.{◌≡◌, ℕ, false, [], ◌∷◌, replicate, pos, Some, None, Ok, refl, inl, arith, lit<}
+use Rattle.packet.specs.declared.records.Record.TheVariants.{Control, EditValue, RealValue, State}
 use Rattle.packet.specs.declared.words.Descriptor.{Descriptor}
 use Rattle.packet.specs.Messages.{messages_of}
 use Rattle.packet.specs.Packets.{packet_bytes}
@@ -88,4 +88,23 @@ crossed_settled = (
   (refl, refl),
   refl,
   refl,
+)
+
+-- A switch that was told and has answered restarts: it shows nothing, and once its State with InitRequest is taken the hub reports its actor outstanding.
+restarted : (w : World) × Run (opening site st) w × ((w.ends 7).display.shown (slot Target 1) ≡ None) × ReportedOutstanding w 7 1
+unfolding messages_of item_records outstanding_actors show_all bring_all heard first_unlisted note_all
+restarted = (
+  _,
+  world.Run.next (world.Run.next (world.Run.next (world.Run.next (world.Run.next (world.Run.next (world.Run.next (world.Run.next (world.Run.next world.Run.start
+      (world.Move.enrols 7 (1 ∷ []) _ (lit< tt) (lit< tt, tt) refl))
+      (world.Move.composes 7 (replicate 36 0) _ _ refl))
+      (world.Move.sends 7 1 _ refl))
+      (world.Move.arrives 7 _ [] refl))
+      (world.Move.answers 7 0 (packet_bytes (words 1) (RealValue 1 (pos 5) ∷ EditValue 1 (pos 5) ∷ Control 0x130 ∷ [])) _ _ refl (inl (refl, (_, refl, refl)))))
+      (world.Move.takes_answer 7 _ [] _ _ _ _ _ refl refl refl (λ e. one≢0 e) refl (lit< tt)))
+      (world.Move.restarts 7))
+      (world.Move.reports 7 (packet_bytes (words 0) (State 64 ∷ [])) _ _ refl refl))
+      (world.Move.takes_event 7 _ [] _ _ _ _ _ refl refl refl refl refl),
+  refl,
+  (_, refl, refl),
 )
