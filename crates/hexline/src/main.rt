@@ -1,6 +1,11 @@
 // A hub with two switches on a line of text: payloads in hexadecimal come in, one a line, and the packets that are then due go out.
 #![tactic(auto)]
 
+ghost use Rattle.std.specs.Prelude.{◌≡◌, OnOk};
+ghost use Rattle.hexadecimal.specs.Lines.{lines_of};
+ghost use Rattle.hub.specs.Memory.{hub_model};
+ghost use Rattle.hexline.specs.Played.{Hears, HearsAll, told};
+
 use fault::Fault;
 use hexadecimal::{Digits, Lines};
 use hub::{Composed, Hub};
@@ -31,20 +36,26 @@ fn show_refusal(rt: &impl Print, fault: Fault) -> io::Result<()> {
 }
 
 // Reads the payload that a line spells, and gives it to the hub. `stage` does the like: each program stands alone.
-fn hear<S: ActorStore>(hub: &mut Hub<S>, line: &[u8]) -> Result<(Arrival, usize), Fault> {
+fn hear<S: ActorStore>(hub: &mut Hub<S>, line: &[u8]) -> Result<(Arrival, usize), Fault>
+    ensures { Hears line.now (hub_model S.meaning hub.old) (hub_model S.meaning hub.new) }
+{
     let mut payload = [0; PAYLOAD_MOST];
     let length = hexadecimal::decode(line, &mut payload)?;
     hub.take(&payload[..length])
 }
 
-fn show_line<S: ActorStore>(rt: &impl Print, hub: &mut Hub<S>, line: &[u8]) -> io::Result<()> {
+fn show_line<S: ActorStore>(rt: &impl Print, hub: &mut Hub<S>, line: &[u8]) -> io::Result<()>
+    ensures { Hears line.now (hub_model S.meaning hub.old) (hub_model S.meaning hub.new) }
+{
     match hear(hub, line) {
         Ok((arrival, count)) => println!(rt; "{arrival} {count}"),
         Err(fault) => show_refusal(rt, fault),
     }
 }
 
-fn show_lines<S: ActorStore>(rt: &impl Print, hub: &mut Hub<S>, text: &[u8]) -> io::Result<()> {
+fn show_lines<S: ActorStore>(rt: &impl Print, hub: &mut Hub<S>, text: &[u8]) -> io::Result<()>
+    ensures { OnOk result (HearsAll (lines_of text.now) (hub_model S.meaning hub.old) (hub_model S.meaning hub.new)) }
+{
     for line in Lines::new(text) {
         show_line(rt, hub, line)?;
     }
@@ -57,7 +68,9 @@ fn tell_by<S: ActorStore>(
     hub: &mut Hub<S>,
     id: u16,
     buf: &mut [u8],
-) -> io::Result<()> {
+) -> io::Result<()>
+    ensures { hub_model S.meaning hub.new ≡ told (hub_model S.meaning hub.old) id buf.old }
+{
     match hub.compose(id, buf) {
         Ok(
             Composed {

@@ -1,6 +1,6 @@
 -- The law is not empty: runs in which a switch is enrolled and told of a new target, answers, and has nothing outstanding.
-use Rattle.std.proofs.Common.{◌≡◌, ℕ, false, [], ◌∷◌, replicate, pos, Some, Ok, refl, inl, arith, lit<}
-use Rattle.packet.specs.declared.records.Record.TheVariants.{Control, EditValue, RealValue}
+use Rattle.std.proofs.Common.{◌≡◌, ℕ, false, [], ◌∷◌, replicate, pos, Some, None, Ok, refl, subst, inl, ⊎_elim, arith, lit<}
+use Rattle.packet.specs.declared.records.Record.TheVariants.{Control, EditValue, RealValue, State}
 use Rattle.packet.specs.declared.words.Descriptor.{Descriptor}
 use Rattle.packet.specs.Messages.{messages_of}
 use Rattle.packet.specs.Packets.{packet_bytes}
@@ -13,7 +13,7 @@ use Rattle.model.specs.Taking.{first_unlisted, heard}
 use Rattle.law.specs.Values.{last_accepted, note_all, show_all, slot}
 use Rattle.law.specs.World as world
 use Rattle.law.specs.World.{Run, World, bring_all}
-use Rattle.law.specs.Law.{ReportedOutstanding, Shows, opening}
+use Rattle.law.specs.Law.{Excused, ReportedOutstanding, Shows, opening}
 
 -- every actor known, all values 5
 abbrev site : Site
@@ -69,10 +69,10 @@ crossed = (
       (world.Move.takes_answer 7 _ [] _ _ _ _ _ refl refl refl (λ e. one≢0 e) refl (lit< tt)),
 )
 
--- the switch shows the older target, and the hub reports it outstanding
-crossed_outstanding : ((crossed.0.ends 7).display.shown (slot Target 1) ≡ Some (pos 230)) × ReportedOutstanding crossed.0 7 1
+-- the switch shows the older target, its own turn is past, and the hub reports the actor outstanding
+crossed_outstanding : ((crossed.0.ends 7).display.shown (slot Target 1) ≡ Some (pos 230)) × ((crossed.0.ends 7).display.latest 1 ≡ None) × ReportedOutstanding crossed.0 7 1
 unfolding messages_of item_records outstanding_actors show_all bring_all heard first_unlisted note_all crossed
-crossed_outstanding = (refl, (_, refl, refl))
+crossed_outstanding = (refl, refl, (_, refl, refl))
 
 -- one exchange later it shows the newer one
 crossed_settled : (w : World) × Run (opening site st) w × Shows w 7 1 × ((w.ends 7).display.shown (slot Target 1) ≡ Some (pos 190)) × (outstanding_at w.hub 7 ≡ Ok false)
@@ -88,4 +88,49 @@ crossed_settled = (
   (refl, refl),
   refl,
   refl,
+)
+
+-- A switch that was told and has answered restarts: it shows nothing, and once its State with InitRequest is taken the hub reports its actor outstanding.
+restarted : (w : World) × Run (opening site st) w × ((w.ends 7).display.shown (slot Target 1) ≡ None) × ReportedOutstanding w 7 1
+unfolding messages_of item_records outstanding_actors show_all bring_all heard first_unlisted note_all
+restarted = (
+  _,
+  world.Run.next (world.Run.next (world.Run.next (world.Run.next (world.Run.next (world.Run.next (world.Run.next (world.Run.next (world.Run.next world.Run.start
+      (world.Move.enrols 7 (1 ∷ []) _ (lit< tt) (lit< tt, tt) refl))
+      (world.Move.composes 7 (replicate 36 0) _ _ refl))
+      (world.Move.sends 7 1 _ refl))
+      (world.Move.arrives 7 _ [] refl))
+      (world.Move.answers 7 0 (packet_bytes (words 1) (RealValue 1 (pos 5) ∷ EditValue 1 (pos 5) ∷ Control 0x130 ∷ [])) _ _ refl (inl (refl, (_, refl, refl)))))
+      (world.Move.takes_answer 7 _ [] _ _ _ _ _ refl refl refl (λ e. one≢0 e) refl (lit< tt)))
+      (world.Move.restarts 7))
+      (world.Move.reports 7 (packet_bytes (words 0) (State 64 ∷ [])) _ _ refl refl))
+      (world.Move.takes_event 7 _ [] _ _ _ _ _ refl refl refl refl refl),
+  refl,
+  (_, refl, refl),
+)
+
+abbrev IsAnswer : world.About → Type 0
+IsAnswer (world.About.answer_to k) = Unit {0}
+IsAnswer (world.About.turn_of j a) = ⊥
+IsAnswer world.About.other_event = ⊥
+
+answer≢turn : (k j a : ℕ) → world.About.answer_to k ≡ world.About.turn_of j a → ⊥
+answer≢turn k j a e = subst IsAnswer e tt
+
+-- A switch that was told and has answered turns a target: it shows it, the hub has nothing outstanding, and the switch is excused until its event is taken.
+turned_settled : (w : World) × Run (opening site st) w × ((w.ends 7).display.shown (slot Target 1) ≡ Some (pos 190)) × (outstanding_at w.hub 7 ≡ Ok false) × Excused (w.ends 7) 1
+unfolding messages_of item_records outstanding_actors show_all bring_all
+turned_settled = (
+  _,
+  world.Run.next (world.Run.next (world.Run.next (world.Run.next (world.Run.next (world.Run.next (world.Run.next world.Run.start
+      (world.Move.enrols 7 (1 ∷ []) _ (lit< tt) (lit< tt, tt) refl))
+      (world.Move.composes 7 (replicate 36 0) _ _ refl))
+      (world.Move.sends 7 1 _ refl))
+      (world.Move.arrives 7 _ [] refl))
+      (world.Move.answers 7 0 (packet_bytes (words 1) (RealValue 1 (pos 5) ∷ EditValue 1 (pos 5) ∷ Control 0x130 ∷ [])) _ _ refl (inl (refl, (_, refl, refl)))))
+      (world.Move.takes_answer 7 _ [] _ _ _ _ _ refl refl refl (λ e. one≢0 e) refl (lit< tt)))
+      (world.Move.turns 7 1 (pos 190) (packet_bytes (words 0) (EditValue 1 (pos 190) ∷ [])) _ _ refl refl refl (inl refl)),
+  refl,
+  refl,
+  (_, refl, λ t. ⊎_elim (answer≢turn 0 0 1) (λ z. z) t),
 )

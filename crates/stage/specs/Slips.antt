@@ -4,8 +4,6 @@ use Rattle.std.specs.Option.{option_map, option_to_list}
 use Rattle.model.specs.Composing as composing
 use Rattle.model.specs.Models.{HubModel, Step, SwitchModel, find_switch, hub_after}
 use Rattle.hub.specs.declared.slip.Slip.{Slip}
-use Rattle.script.specs.Calls as call
-use Rattle.script.specs.Calls.{Said}
 use Rattle.stage.specs.declared.slips.Fate.{Fate}
 use Rattle.stage.specs.declared.slips.Fate.TheVariants.{Sent, Withheld}
 
@@ -47,20 +45,3 @@ handed_in Withheld h x = composing.withheld h x.switch x.number
 abbrev pub handed_for : Fate → HubModel → ℕ → ℕ → Option ℕ → HubModel
 handed_for fate h switch number None = h
 handed_for fate h switch number (Some i) = hub_after h (handed_in fate h (record { switch = switch; number = number }))
-
--- a call that hands a slip in leaves the hub so, and of other calls this says nothing
-abbrev pub HandsIn : Said → List Slip → HubModel → HubModel → Type 0
-HandsIn (call.sent s n) slips h g = g ≡ handed_for Sent h s n (place_for s n slips)
-HandsIn (call.withheld s n) slips h g = g ≡ handed_for Withheld h s n (place_for s n slips)
-HandsIn (call.open_hub site store) slips h g = Unit {0}
-HandsIn (call.enrol s list) slips h g = Unit {0}
-HandsIn (call.actual a v) slips h g = Unit {0}
-HandsIn (call.target a v) slips h g = Unit {0}
-HandsIn (call.control s word) slips h g = Unit {0}
-HandsIn (call.take digits) slips h g = Unit {0}
-HandsIn (call.compose s room) slips h g = Unit {0}
-HandsIn (call.marks s a) slips h g = Unit {0}
-HandsIn (call.word s) slips h g = Unit {0}
-HandsIn (call.flags s) slips h g = Unit {0}
-HandsIn (call.key s) slips h g = Unit {0}
-HandsIn (call.reading s) slips h g = Unit {0}

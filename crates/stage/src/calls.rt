@@ -1,12 +1,15 @@
 // The calls of a script, made on the hub.
-ghost use Rattle.std.specs.Prelude.{◌≡◌};
+ghost use Rattle.std.specs.Prelude.{◌≡◌, Bool, List, is_ok};
 ghost use Rattle.hub.specs.Memory.{hub_model};
 ghost use Rattle.script.specs.Calls.{said};
-ghost use Rattle.stage.specs.Slips.{HandsIn, SameOut, handed_for, place_for};
+ghost use Rattle.hub.specs.declared.slip.Slip.{Slip};
+ghost use Rattle.stage.specs.Calls.{Composes, Leaves, Plain, TakesTelling};
+ghost use Rattle.stage.specs.Slips.{SameOut, handed_for, place_for};
+ghost use Rattle.stage.specs.Telling.{asks};
 
 use crate::desk::Desk;
 use crate::slips::{Fate, keep, place};
-use crate::telling::{LatestKey, Reading, Taken, tell, tell_done, tell_refusal};
+use crate::telling::{Told, tell, tell_done, tell_refusal};
 use fault::Fault;
 use hexadecimal::Digits;
 use hub::{Composed, Hub};
@@ -16,18 +19,34 @@ use std::io;
 use store::meaning::ActorStore;
 
 // Reads the payload that a text spells, and gives it to the hub.
-fn take<S: ActorStore>(hub: &mut Hub<S>, text: &[u8]) -> Result<Taken, Fault>
-    ensures { SameOut (hub_model S.meaning hub.old) (hub_model S.meaning hub.new) }
+fn take<S: ActorStore>(hub: &mut Hub<S>, text: &[u8]) -> Result<Told, Fault>
+    ensures out { SameOut (hub_model S.meaning hub.old) (hub_model S.meaning hub.new) }
+    ensures takes { TakesTelling text.now result (hub_model S.meaning hub.old) (hub_model S.meaning hub.new) }
 {
     let mut payload = [0; PAYLOAD_MOST];
     let length = hexadecimal::decode(text, &mut payload)?;
     hub.take(&payload[..length])
-        .map(|(arrival, count)| Taken { arrival, count })
+        .map(|(arrival, count)| Told::Taken(arrival, count))
 }
 
-// Settings, and what switches send: calls that open and close no slip.
+// Asks the hub what a question of a script asks.
+fn ask<S: ActorStore>(hub: &Hub<S>, call: &Call<'_>) -> Option<Result<Told, Fault>>
+    ensures { result ≡ asks (said call.now) (hub_model S.meaning hub.now) }
+{
+    match *call {
+        Call::Marks { switch, actor } => Some(hub.actor_mark(switch, actor).map(Told::Mark)),
+        Call::Word(switch) => Some(hub.control_mark(switch).map(Told::Mark)),
+        Call::Flags(switch) => Some(hub.flags(switch).map(Told::Flags)),
+        Call::Key(switch) => Some(hub.latest_key(switch).map(Told::Key)),
+        Call::Reading(switch) => Some(hub.reading(switch).map(Told::Reading)),
+        _ => None,
+    }
+}
+
+// Settings, what switches send, and questions: calls that open and close no slip.
 fn apply<S: ActorStore>(rt: &impl Print, hub: &mut Hub<S>, call: Call<'_>) -> io::Result<()>
-    ensures { SameOut (hub_model S.meaning hub.old) (hub_model S.meaning hub.new) }
+    ensures out { SameOut (hub_model S.meaning hub.old) (hub_model S.meaning hub.new) }
+    ensures leaves { Plain (said call.entry) → (done : Bool) (slips : List Slip) → Leaves (said call.entry) done slips (hub_model S.meaning hub.old) (hub_model S.meaning hub.new) }
 {
     match call {
         Call::Enrol { switch, actors } => tell_done(rt, hub.enrol(switch, actors.entries())),
@@ -35,18 +54,18 @@ fn apply<S: ActorStore>(rt: &impl Print, hub: &mut Hub<S>, call: Call<'_>) -> io
         Call::Target { actor, value } => tell_done(rt, hub.set_target(actor, value)),
         Call::Control { switch, word } => tell_done(rt, hub.set_control(switch, word)),
         Call::Take(text) => tell(rt, take(hub, text)),
-        Call::Marks { switch, actor } => tell(rt, hub.actor_mark(switch, actor)),
-        Call::Word(switch) => tell(rt, hub.control_mark(switch)),
-        Call::Flags(switch) => tell(rt, hub.flags(switch)),
-        Call::Key(switch) => tell(rt, hub.latest_key(switch).map(LatestKey)),
-        Call::Reading(switch) => tell(rt, hub.reading(switch).map(Reading)),
-        _ => rt.println("unknown"),
+        _ => match ask(hub, &call) {
+            Some(answer) => tell(rt, answer),
+            None => rt.println("unknown"),
+        },
     }
 }
 
 impl<S: ActorStore> Desk<S> {
     // Composes into a buffer, and keeps the slip.
-    fn compose(&mut self, rt: &impl Print, switch: u16, buf: &mut [u8]) -> io::Result<()> {
+    fn compose(&mut self, rt: &impl Print, switch: u16, buf: &mut [u8]) -> io::Result<()>
+        ensures { Composes (is_ok result) switch buf.old (hub_model S.meaning self.old.hub) (hub_model S.meaning self.new.hub) }
+    {
         match self.hub.compose(switch, buf) {
             Ok(composed) => {
                 let Composed {
@@ -84,7 +103,7 @@ impl<S: ActorStore> Desk<S> {
 
     // Makes a call. A hub is opened once: a second `open` is no call.
     pub(crate) fn make(&mut self, rt: &impl Print, call: Call<'_>) -> io::Result<()>
-        ensures { HandsIn (said call.entry) self.old.held.items (hub_model S.meaning self.old.hub) (hub_model S.meaning self.new.hub) }
+        ensures { Leaves (said call.entry) (is_ok result) self.old.held.items (hub_model S.meaning self.old.hub) (hub_model S.meaning self.new.hub) }
     {
         match call {
             Call::Compose { switch, room } => {

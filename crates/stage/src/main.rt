@@ -1,6 +1,11 @@
 // A stage for a hub: a script of calls comes in, one a line, and what each call told goes out.
 #![tactic(auto)]
 
+ghost use Rattle.std.specs.Prelude.{OnOk};
+ghost use Rattle.hexadecimal.specs.Lines.{lines_of};
+ghost use Rattle.hub.specs.Memory.{hub_model};
+ghost use Rattle.stage.specs.Calls.{MakesAll};
+
 mod calls;
 mod desk;
 mod slips;
@@ -22,7 +27,9 @@ use store::table::Table;
 use telling::tell_refusal;
 
 // Makes the calls of a script, up to its end.
-fn make_all<S: ActorStore>(rt: &impl Print, desk: &mut Desk<S>, text: &[u8]) -> io::Result<()> {
+fn make_all<S: ActorStore>(rt: &impl Print, desk: &mut Desk<S>, text: &[u8]) -> io::Result<()>
+    ensures { OnOk result (MakesAll (lines_of text.now) (hub_model S.meaning desk.old.hub) (hub_model S.meaning desk.new.hub)) }
+{
     for line in Lines::new(text) {
         if script::is_passed_over(line) {
             continue;

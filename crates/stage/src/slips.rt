@@ -2,6 +2,7 @@
 ghost use Rattle.std.specs.Prelude.{◌≡◌, ◌<◌, true, [], ◌∷◌, ◌++◌, length, IfSome, is_ok};
 ghost use Rattle.model.specs.Models.{hub_after};
 ghost use Rattle.hub.specs.Memory.{hub_model};
+ghost use Rattle.stage.specs.Calls.{Keeps};
 ghost use Rattle.stage.specs.Slips.{HoldsAll, handed_in, place_for};
 
 use hub::{Hub, Slip};
@@ -43,7 +44,8 @@ pub(crate) fn keep<S: ActorStore>(
     slip: Slip,
 ) -> Result<(), AllocError>
     requires one_more { HoldsAll (hub_model S.meaning hub.old) (held.old.items ++ slip ∷ []) }
-    ensures { HoldsAll (hub_model S.meaning hub.new) held.new.items }
+    ensures holds { HoldsAll (hub_model S.meaning hub.new) held.new.items }
+    ensures kept { Keeps (is_ok result) slip.switch slip.number (hub_model S.meaning hub.old) (hub_model S.meaning hub.new) }
 {
     // a match, since the slip that comes back is spent on the way
     match held.push(slip) {

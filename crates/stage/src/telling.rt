@@ -1,44 +1,33 @@
 // What a call told, on a line of its own.
+ghost use Rattle.std.specs.Prelude.{Some};
+ghost use Rattle.stage.specs.Telling.{told_text};
+
 use fault::Fault;
-use model::{Arrival, KeyPress};
+use model::{Arrival, KeyPress, Mark};
 use std::{fmt, io};
 
-// What became of a payload: what it was, and how many of its messages were understood.
+// What a call told, where it told more than that it was done: what a payload was and how many of its messages were
+// understood, or what a question asked for.
 #[derive(Clone, Copy, PartialEq, Eq, Debug)]
-pub(crate) struct Taken {
-    pub(crate) arrival: Arrival,
-    pub(crate) count: usize,
+pub(crate) enum Told {
+    Taken(Arrival, usize),
+    Mark(Mark),
+    Flags(u32),
+    Key(Option<KeyPress>),
+    Reading(Option<i16>),
 }
 
-impl fmt::Display for Taken {
+impl fmt::Display for Told {
+    ghost output = { λ told. Some (told_text told) };
+
     fn fmt<W: fmt::Write>(&self, f: &mut fmt::Formatter<W>) -> fmt::Result {
-        let Taken { arrival, count } = *self;
-        write!(f, "{arrival} {count}")
-    }
-}
-
-// A key press, if there was one.
-#[derive(Clone, Copy, PartialEq, Eq, Debug)]
-pub(crate) struct LatestKey(pub(crate) Option<KeyPress>);
-
-impl fmt::Display for LatestKey {
-    fn fmt<W: fmt::Write>(&self, f: &mut fmt::Formatter<W>) -> fmt::Result {
-        match self.0 {
-            Some(KeyPress { actor, key }) => write!(f, "{actor} {key}"),
-            None => write!(f, "none"),
-        }
-    }
-}
-
-// A reading in tenths of a degree, if there is one.
-#[derive(Clone, Copy, PartialEq, Eq, Debug)]
-pub(crate) struct Reading(pub(crate) Option<i16>);
-
-impl fmt::Display for Reading {
-    fn fmt<W: fmt::Write>(&self, f: &mut fmt::Formatter<W>) -> fmt::Result {
-        match self.0 {
-            Some(tenths) => write!(f, "{tenths}"),
-            None => write!(f, "none"),
+        match *self {
+            Told::Taken(arrival, count) => write!(f, "{arrival} {count}"),
+            Told::Mark(mark) => write!(f, "{mark}"),
+            Told::Flags(flags) => write!(f, "{flags}"),
+            Told::Key(Some(KeyPress { actor, key })) => write!(f, "{actor} {key}"),
+            Told::Reading(Some(tenths)) => write!(f, "{tenths}"),
+            Told::Key(None) | Told::Reading(None) => write!(f, "none"),
         }
     }
 }
@@ -57,10 +46,7 @@ pub(crate) fn tell_done(rt: &impl Print, answer: Result<(), Fault>) -> io::Resul
 }
 
 // What a question or a payload brought.
-pub(crate) fn tell<T: fmt::Display + Drop>(
-    rt: &impl Print,
-    answer: Result<T, Fault>,
-) -> io::Result<()> {
+pub(crate) fn tell(rt: &impl Print, answer: Result<Told, Fault>) -> io::Result<()> {
     match answer {
         Ok(told) => println!(rt; "ok {told}"),
         Err(fault) => tell_refusal(rt, fault),

@@ -12,8 +12,8 @@ spend-requires g c =
     let h = hub_model g.S.ActorStore.meaning c.args.hub.now in
     record { owed = ap (λ (x : Slip). is_ok (handed_in Withheld h x)) c.in-Err.ensures.value_returned ∙ owed h c.args.held.now.items [] c.args.slip c.requires.one_more Withheld }
 
-pub returns-in-Err : goal.returns-in-Err
-returns-in-Err g c =
+pub returns-in-Err-clause-holds : goal.returns-in-Err-clause-holds
+returns-in-Err-clause-holds g c =
     let h = hub_model g.S.ActorStore.meaning c.args.hub.now in
     let xs = c.args.held.now.items in
     let after = ◌∙◌ {A = HubModel} c.spend.ensures (ap (λ (x : Slip). hub_after h (handed_in Withheld h x)) c.in-Err.ensures.value_returned) in
