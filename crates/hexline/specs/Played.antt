@@ -1,10 +1,12 @@
 -- What the lines of the program leave of its hub.
-use Rattle.std.specs.Prelude.{◌≡◌, ℕ, ◌⊎◌, List, [], ◌∷◌, Ok, Err}
+use Rattle.std.specs.Prelude.{◌≡◌, ℕ, ◌⊎◌, List, [], ◌∷◌, ◌++◌, Ok, Err, codes, decimal, Result}
 use Rattle.fault.specs.declared.Fault.{Fault}
+use Rattle.fault.specs.Written.{fault_text}
 use Rattle.hexadecimal.specs.Decoding.{Spells, decode_tells}
 use Rattle.model.specs.Composing.{Composition, compose, sent}
 use Rattle.model.specs.Models.{HubModel, Step, hub_after}
-use Rattle.model.specs.Taking.{take_payload}
+use Rattle.model.specs.declared.told.Arrival.{Arrival}
+use Rattle.model.specs.Taking.{arrival_name, take_payload}
 
 -- the hub takes the bytes that a line of digits spells; where it is no such line, nothing changes
 abbrev pub Hears : List ℕ → HubModel → HubModel → Type 0
@@ -24,3 +26,8 @@ told_after h id (Err e) = h
 
 abbrev pub told : HubModel → ℕ → List ℕ → HubModel
 told h id buf = told_after h id (compose h id buf)
+
+-- what a line is answered with: the word and the count, or the number and the place of the refusal
+abbrev pub heard_text : Result (Arrival × ℕ) Fault → List ℕ
+heard_text (Ok p) = arrival_name p.0 ++ (codes " " ++ decimal p.1)
+heard_text (Err e) = codes "refused " ++ fault_text e

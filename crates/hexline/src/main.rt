@@ -1,18 +1,18 @@
 // A hub with two switches on a line of text: payloads in hexadecimal come in, one a line, and the packets that are then due go out.
 #![tactic(auto)]
 
-ghost use Rattle.std.specs.Prelude.{◌≡◌, OnOk};
+ghost use Rattle.std.specs.Prelude.{◌≡◌, OnOk, Some};
 ghost use Rattle.hexadecimal.specs.Lines.{lines_of};
 ghost use Rattle.hub.specs.Memory.{hub_model};
-ghost use Rattle.hexline.specs.Played.{Hears, HearsAll, told};
+ghost use Rattle.hexline.specs.Played.{Hears, HearsAll, heard_text, told};
 
 use fault::Fault;
 use hexadecimal::{Digits, Lines};
 use hub::{Composed, Hub};
 use model::{Arrival, Site};
 use packet::PAYLOAD_MOST;
-use std::io;
 use std::io::Read;
+use std::{fmt, io};
 use store::meaning::ActorStore;
 use store::table::Table;
 
@@ -44,13 +44,25 @@ fn hear<S: ActorStore>(hub: &mut Hub<S>, line: &[u8]) -> Result<(Arrival, usize)
     hub.take(&payload[..length])
 }
 
+// What a line is answered with.
+struct Heard(Result<(Arrival, usize), Fault>);
+
+impl fmt::Display for Heard {
+    ghost output = { λ heard. Some (heard_text heard.0) };
+
+    fn fmt<W: fmt::Write>(&self, f: &mut fmt::Formatter<W>) -> fmt::Result {
+        match self.0 {
+            Ok((arrival, count)) => write!(f, "{arrival} {count}"),
+            Err(fault) => write!(f, "refused {fault}"),
+        }
+    }
+}
+
 fn show_line<S: ActorStore>(rt: &impl Print, hub: &mut Hub<S>, line: &[u8]) -> io::Result<()>
     ensures { Hears line.now (hub_model S.meaning hub.old) (hub_model S.meaning hub.new) }
 {
-    match hear(hub, line) {
-        Ok((arrival, count)) => println!(rt; "{arrival} {count}"),
-        Err(fault) => show_refusal(rt, fault),
-    }
+    let heard = Heard(hear(hub, line));
+    rt.println(heard)
 }
 
 fn show_lines<S: ActorStore>(rt: &impl Print, hub: &mut Hub<S>, text: &[u8]) -> io::Result<()>
