@@ -29,9 +29,11 @@ fn show_messages(rt: &impl Print, payload: &[u8]) -> io::Result<()>
     Ok(())
 }
 
-// Reads a line's payload into the buffer, and checks all of it: its length and what is known of it. The buffer is the caller's, so its length goes beside it.
+// Reads a line's payload into the buffer, which has room for the longest, and checks all of it: its length and what is known of it. The buffer is the
+// caller's, so its length goes beside it.
 fn accept(line: &[u8], buf: &mut [u8]) -> Result<(usize, Packet), Fault>
-    ensures answer { result ≡ accepted_of (decode_tells line.now (length buf.old)) buf.new }
+    requires room { length buf.old ≡ 1472 }
+    ensures answer { result ≡ accepted_of (decode_tells line.now 1472) buf.new }
     ensures whole { IfOk result (λ p. (p.0 ≤ length buf.new) × (is_ok (messages_from (take p.0 buf.new) 16) ≡ true)) }
 {
     let length = hexadecimal::decode(line, buf)?;
