@@ -75,7 +75,20 @@ fn call_of(operation: u8, fate: Fate, a: u16, b: u16, c: u16) -> Call
 fn head_of(script: &[u8]) -> Option<Head>
     ensures { result ≡ head_of script.now }
 {
-    let &[operation, fate, a_lo, a_hi, b_lo, b_hi, c_lo, c_hi, n_lo, n_hi, ..] = script else {
+    let &[
+        operation,
+        fate,
+        a_lo,
+        a_hi,
+        b_lo,
+        b_hi,
+        c_lo,
+        c_hi,
+        n_lo,
+        n_hi,
+        ..
+    ] = script
+    else {
         return None;
     };
     let a = u16::from_le_bytes([a_lo, a_hi]);

@@ -1,12 +1,49 @@
 // A hub for the bench: byte-coded scripts of calls, played on a hub of their own.
 #![tactic(auto)]
 
+ghost use Rattle.std.specs.Prelude.{◌≤◌, length};
+
 mod applying;
 mod call;
+mod calling;
 mod entries;
 mod head;
+mod opening;
 mod outcome;
 mod player;
+mod playing;
 mod slips;
 mod stranger;
 mod telling;
+
+use image::block::Image;
+use opening::play;
+use store::table::Table;
+
+// Plays a script on a hub over a table of actors.
+#[unsafe(no_mangle)]
+pub extern "C" fn play_on_table(
+    version: u16,
+    entries: &[u16],
+    script: &[u8],
+    times: u32,
+    out: &mut [u8],
+) -> usize
+    ensures within { result ≤ length out.old }
+{
+    play(Table::open(entries), version, script, times, out)
+}
+
+// Plays a script on a hub over the image of a block.
+#[unsafe(no_mangle)]
+pub extern "C" fn play_on_image(
+    version: u16,
+    block: &[u8],
+    script: &[u8],
+    times: u32,
+    out: &mut [u8],
+) -> usize
+    ensures within { result ≤ length out.old }
+{
+    play(Image::open(block), version, script, times, out)
+}
