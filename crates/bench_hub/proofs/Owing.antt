@@ -233,5 +233,5 @@ kept_owed fate h id buf kept told g answer now k = go (compose h id buf) refl an
         subst (λ (t : Composed). PlacedOwed fate kept t.slip g) (sym (same_answer _ _ a)) (subst (PlacedOwed fate kept (record { switch = id; number = p.0.number })) (sym n) (placed_owed h id buf p.0 p.1 q fate kept k))
 
 -- the same under other names
-pub owed_as : (s t : Scene) → s.hub ≡ t.hub → s.kept ≡ t.kept → ForSome t.kept (λ x. owed t.hub x ≡ true) → ForSome s.kept (λ x. owed s.hub x ≡ true)
-owed_as s t e q k x p = ap (λ (h : HubModel). owed h x) e ∙ k x (sym q ∙ p)
+pub owed_as : (s t : Scene) → s ≡ t → ForSome t.kept (λ x. owed t.hub x ≡ true) → ForSome s.kept (λ x. owed s.hub x ≡ true)
+owed_as s t e k = subst (λ (r : Scene). ForSome r.kept (λ x. owed r.hub x ≡ true)) (sym e) k

@@ -1,6 +1,7 @@
 // Playing a script, and playing it again.
 ghost use Rattle.std.specs.Prelude.{◌≡◌, ◌+◌, ◌≤◌, length};
-ghost use Rattle.bench_hub.specs.Scripts.{buffer_of};
+ghost use Rattle.bench_hub.specs.Players.{player_scene};
+ghost use Rattle.bench_hub.specs.Scripts.{after_call, buffer_of, room_of, told_bytes};
 
 use crate::call::Call;
 use crate::head::next_call;
@@ -26,7 +27,9 @@ impl Call {
 impl<S: ActorStore> Player<S> {
     // Makes a call, and writes its outcome into the room that it takes.
     fn play_call(&mut self, call: Call, body: &[u8], room: &mut [u8])
-        requires room { length room.old ≡ 10 + buffer_of call }
+        requires room { length room.old ≡ room_of call }
+        ensures bytes { room.new ≡ told_bytes (player_scene S.meaning self.old) call body.now }
+        ensures after { player_scene S.meaning self.new ≡ after_call (player_scene S.meaning self.old) call body.now }
     {
         let (head, buf) = room.split_at_mut(OUTCOME_LEN);
         buf.fill(UNWRITTEN);

@@ -3,7 +3,7 @@ ghost use Rattle.std.specs.Prelude.{◌≡◌, true, None, Some, is_ok};
 ghost use Rattle.model.specs.Models.{hub_after};
 ghost use Rattle.hub.specs.Memory.{hub_model};
 ghost use Rattle.hub.specs.Slips.{owed};
-ghost use Rattle.bench_hub.specs.Playing.{handed_in, placed};
+ghost use Rattle.bench_hub.specs.Playing.{handed_in, placed, scene};
 
 use crate::call::Fate;
 use hub::{Hub, Slip};
@@ -40,8 +40,7 @@ pub(crate) fn place<S: ActorStore>(
     fate: Fate,
 )
     requires owed { is_ok (handed_in fate (hub_model S.meaning hub.old) slip) ≡ true }
-    ensures hub { hub_model S.meaning hub.new ≡ (placed fate slip (hub_model S.meaning hub.old) kept.old).hub }
-    ensures kept { kept.new ≡ (placed fate slip (hub_model S.meaning hub.old) kept.old).kept }
+    ensures { scene (hub_model S.meaning hub.new) kept.new ≡ placed fate slip (hub_model S.meaning hub.old) kept.old }
 {
     match fate {
         Fate::Kept if kept.is_none() => keep(kept, slip),

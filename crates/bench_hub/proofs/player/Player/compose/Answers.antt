@@ -17,6 +17,6 @@ invariant_of-self g c =
     let kept = c.args.self.now.kept in
     let slip = c.in-Ok.field-0.slip in
     record {
-      owed = owed_as (scene (hub_model m c.place.new.hub) c.place.new.kept) (placed c.args.fate slip k kept) c.place.ensures.hub c.place.ensures.kept
+      owed = owed_as (scene (hub_model m c.place.new.hub) c.place.new.kept) (placed c.args.fate slip k kept) c.place.ensures
           (kept_owed c.args.fate h c.args.switch c.args.buf.now kept c.in-Ok.field-0 k c.in-Ok.ensures.answer c.compose.ensures.after c.args.self.now.owed);
     }
