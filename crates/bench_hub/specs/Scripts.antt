@@ -69,3 +69,24 @@ played (c ∷ calls) p = cond (nat_lt (length p.out) (p.at + room_of c.0)) p (pl
 unfoldable pub played_times : ℕ → List (Call × List ℕ) → ℕ → Play → Play
 played_times zero calls at p = p
 played_times (suc n) calls at p = let q = played_times n calls at p in played calls (play_at q.scene q.out at)
+
+-- the words of a play's hub
+abbrev pub site : ℕ → Site
+site version = record { version = version; project = 0x1234; firmware = 0x0007; design = 0x0005 }
+
+-- the hub over a store, if one was opened, by what the store knows
+abbrev pub hub_over : ℕ → Result Known Fault → Result HubModel Fault
+hub_over version (Ok known) = opened (site version) known
+hub_over version (Err e) = Err e
+
+-- the bytes that hold outcomes, and all bytes of `out`
+abbrev pub shown : Play → ℕ × List ℕ
+shown p = (p.at, p.out)
+
+abbrev pub play_opened : Result HubModel Fault → List ℕ → ℕ → List ℕ → ℕ × List ℕ
+play_opened (Ok h) script times out = shown (played_times times (calls_in script) 10 (play_at (scene h None) (over out 0 (outcome_bytes (Done untold))) 10))
+play_opened (Err e) script times out = (10, over out 0 (outcome_bytes (Refused e)))
+
+-- A whole play, over a store that knows this or was refused: the outcome of the opening, and behind it those of the script's last time.
+abbrev pub play : ℕ → Result Known Fault → List ℕ → ℕ → List ℕ → ℕ × List ℕ
+play version store script times out = cond (nat_lt (length out) 10) (0, out) (play_opened (hub_over version store) script times out)

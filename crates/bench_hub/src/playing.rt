@@ -1,7 +1,7 @@
 // Playing a script, and playing it again.
 ghost use Rattle.std.specs.Prelude.{◌≡◌, ◌+◌, ◌≤◌, length};
 ghost use Rattle.bench_hub.specs.Players.{player_scene};
-ghost use Rattle.bench_hub.specs.Scripts.{after_call, buffer_of, room_of, told_bytes};
+ghost use Rattle.bench_hub.specs.Scripts.{after_call, buffer_of, calls_in, play_at, played, played_times, room_of, told_bytes};
 
 use crate::call::Call;
 use crate::head::next_call;
@@ -41,6 +41,7 @@ impl<S: ActorStore> Player<S> {
     fn play_script(&mut self, script: &[u8], out: &mut [u8], from: usize) -> usize
         requires within { from ≤ length out.old }
         ensures within { result ≤ length out.old }
+        ensures played { play_at (player_scene S.meaning self.new) out.new result ≡ played (calls_in script.now) (play_at (player_scene S.meaning self.old) out.old from) }
     {
         let mut at = from;
         let mut left = script;
@@ -66,6 +67,7 @@ impl<S: ActorStore> Player<S> {
     ) -> usize
         requires within { from ≤ length out.old }
         ensures within { result ≤ length out.old }
+        ensures played { play_at (player_scene S.meaning self.new) out.new result ≡ played_times times (calls_in script.now) from (play_at (player_scene S.meaning self.old) out.old from) }
     {
         let mut end = from;
         for _time in 0..times {
