@@ -1,7 +1,11 @@
 // A hub for the bench: byte-coded scripts of calls, played on a hub of their own.
 #![tactic(auto)]
 
-ghost use Rattle.std.specs.Prelude.{◌≤◌, length};
+ghost use Rattle.std.specs.Prelude.{◌≡◌, ◌≤◌, length};
+ghost use Rattle.store.specs.Lists.{table_over};
+ghost use Rattle.store.specs.Meaning.{meant};
+ghost use Rattle.image.specs.Layout.{actors_of, image_over};
+ghost use Rattle.bench_hub.specs.Scripts.{play};
 
 mod applying;
 mod call;
@@ -29,6 +33,8 @@ pub extern "C" fn play_on_table(
     times: u32,
     out: &mut [u8],
 ) -> usize
+    ensures length { result ≡ (play version (table_over entries.now) script.now times out.old).0 }
+    ensures bytes { out.new ≡ (play version (table_over entries.now) script.now times out.old).1 }
     ensures within { result ≤ length out.old }
 {
     play(Table::open(entries), version, script, times, out)
@@ -43,6 +49,8 @@ pub extern "C" fn play_on_image(
     times: u32,
     out: &mut [u8],
 ) -> usize
+    ensures length { result ≡ (play version (meant actors_of (image_over block.now)) script.now times out.old).0 }
+    ensures bytes { out.new ≡ (play version (meant actors_of (image_over block.now)) script.now times out.old).1 }
     ensures within { result ≤ length out.old }
 {
     play(Image::open(block), version, script, times, out)
