@@ -5,7 +5,7 @@ use Rattle.std.proofs.lemmas.Bool.{cases_eq, eq-eqb, true≢false}
 use Rattle.fault.specs.declared.CallFault.TheVariants.{ControlWord, NoSlip}
 use Rattle.fault.specs.declared.Fault.{Fault}
 use Rattle.fault.specs.declared.Fault.TheVariants as fault
-use Rattle.fault.specs.declared.FrameFault.TheVariants.{MajorVersion, Project}
+use Rattle.fault.specs.declared.FrameFault.TheVariants.{Project}
 use Rattle.packet.proofs.Spelling.{past, same_answer}
 use Rattle.packet.specs.declared.records.Message.{Message}
 use Rattle.packet.specs.declared.words.Descriptor.{Descriptor}

@@ -1,5 +1,5 @@
 -- The calls of a script: heads of ten bytes, each with its data behind it.
-use Rattle.std.specs.Prelude.{ℕ, zero, suc, ◌+◌, ◌*◌, min, cond, List, [], ◌∷◌, length, take, drop, Some, None, Option, ◌==◌, nat_lt, slice_index}
+use Rattle.std.specs.Prelude.{ℕ, ◌+◌, ◌*◌, min, cond, List, [], ◌∷◌, length, take, drop, Some, None, Option, ◌==◌, nat_lt, slice_index}
 use Rattle.std.specs.Int.{w16, cast_signed}
 use Rattle.kind.specs.Layout.{word}
 use Rattle.bench_hub.specs.declared.call.Call.{Call}

@@ -1,4 +1,4 @@
-use Rattle.std.proofs.Common.{◌≡◌, ◌≤◌, length, refl, arith}
+use Rattle.std.proofs.Common.{◌≡◌, length, refl, arith}
 use Rattle.bench_hub.proofs.Reading.{all_kept, none_kept, word_kept}
 use Rattle.bench_hub.proofs.entries.entries_in.Goals as goal
 

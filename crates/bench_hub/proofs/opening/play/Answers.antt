@@ -1,4 +1,4 @@
-use Rattle.std.proofs.Common.{rules, ◌≡◌, ℕ, List, None, ap, ap₂}
+use Rattle.std.proofs.Common.{rules, ◌≡◌, ℕ, List, ap, ap₂}
 use Rattle.store.specs.Meaning.{meant}
 use Rattle.hub.specs.Memory.{hub_model}
 use Rattle.bench_hub.specs.Players.{player_scene}

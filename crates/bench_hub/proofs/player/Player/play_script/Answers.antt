@@ -1,4 +1,4 @@
-use Rattle.std.proofs.Common.{rules, ◌≡◌, ℕ, ◌+◌, ◌-◌, ◌≤◌, length, ap, ◌∙◌, arith}
+use Rattle.std.proofs.Common.{rules, ℕ, ◌+◌, ◌-◌, ap}
 use Rattle.bench_hub.specs.Players.{player_scene}
 use Rattle.bench_hub.specs.Scripts.{play_at}
 use Rattle.bench_hub.proofs.Plays.{no_more, no_room, one_more, room_long}
