@@ -6,7 +6,7 @@ use Rattle.std.proofs.lemmas.Option.{none-some}
 use Rattle.bench_hub.specs.declared.call.Call.{Call}
 use Rattle.bench_hub.specs.declared.head.Head.{Head}
 use Rattle.bench_hub.specs.Calls.{head_of, next_call, with_data}
-use Rattle.bench_hub.specs.Scripts.{calls_in, calls_up_to, first_and}
+use Rattle.bench_hub.specs.Scripts.{calls_in, calls_up_to, call_then}
 
 rest_of : Option (Call × List ℕ × List ℕ) → List ℕ
 rest_of None = []
@@ -38,7 +38,7 @@ enough (suc n) zero (b ∷ s) k l = absurd (omega arith)
 enough (suc n) (suc m) s k l = go (next_call s) refl (enough n m)
   where
     go : (o : Option (Call × List ℕ × List ℕ)) → next_call s ≡ o → ((t : List ℕ) → length t ≤ n → length t ≤ m → calls_up_to n t ≡ calls_up_to m t)
-        → first_and (calls_up_to n) o ≡ first_and (calls_up_to m) o
+        → call_then (calls_up_to n) o ≡ call_then (calls_up_to m) o
     go None q ih = refl
     go (Some p) q ih =
         let less : length p.2 < length s = shorter s (head_of s) p q in
@@ -51,7 +51,7 @@ calls_more s call body rest e = go (length s) refl (shorter s (head_of s) (call,
     go : (n : ℕ) → n ≡ length s → length rest < length s → calls_up_to n s ≡ (call, body) ∷ calls_in rest
     go zero q less = absurd (omega arith)
     go (suc n) q less =
-        ap (first_and (calls_up_to n)) e ∙ ap (λ (calls : List (Call × List ℕ)). (call, body) ∷ calls) (enough n (length rest) rest (omega arith) (omega arith))
+        ap (call_then (calls_up_to n)) e ∙ ap (λ (calls : List (Call × List ℕ)). (call, body) ∷ calls) (enough n (length rest) rest (omega arith) (omega arith))
 
 pub calls_end : (s : List ℕ) → next_call s ≡ None → calls_in s ≡ []
 unfolding calls_up_to
@@ -59,4 +59,4 @@ calls_end s e = go (length s)
   where
     go : (n : ℕ) → calls_up_to n s ≡ []
     go zero = refl
-    go (suc n) = ap (first_and (calls_up_to n)) e
+    go (suc n) = ap (call_then (calls_up_to n)) e

@@ -1,4 +1,4 @@
--- The calls of a script: heads of ten bytes, each with its data behind it.
+-- The calls of a script: each is a head of ten bytes (operation, fate, and four words, the low byte first) with its data behind it.
 use Rattle.std.specs.Prelude.{ℕ, ◌+◌, ◌*◌, min, cond, List, [], ◌∷◌, length, take, drop, Some, None, Option, ◌==◌, nat_lt, slice_index}
 use Rattle.std.specs.Int.{w16, cast_signed}
 use Rattle.kind.specs.Layout.{word}

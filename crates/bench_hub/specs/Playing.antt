@@ -23,7 +23,6 @@ use Rattle.bench_hub.specs.declared.outcome.Outcome.{Outcome}
 use Rattle.bench_hub.specs.declared.outcome.Outcome.TheVariants.{Done, Refused, Idle}
 use Rattle.bench_hub.specs.declared.outcome.Told.{Told}
 use Rattle.bench_hub.specs.Calls.{words_in}
-use Rattle.bench_hub.specs.Outcomes.{untold}
 use Rattle.bench_hub.specs.Telling.{flags_told, key_told, mark_told, outcome_of, outstanding_told, reading_told, taken_told, told_in, unit_told}
 
 -- what a step tells, and the hub that it leaves
@@ -75,10 +74,10 @@ abbrev pub after_composed : Fate → HubModel → Option Slip → Result Compose
 after_composed fate h kept (Ok c) = placed fate c.slip h kept
 after_composed fate h kept (Err e) = scene h kept
 
--- Handing in the kept slip. It is one that the hub has open, so that the hub takes it.
-abbrev pub told_handed : Option Slip → Outcome
-told_handed None = Idle
-told_handed (Some x) = Done untold
+-- Handing in the kept slip. It is one that the hub has open, so that the hub takes it, and none is kept then.
+abbrev pub told_handed : Fate → HubModel → Option Slip → Outcome
+told_handed fate h None = Idle
+told_handed fate h (Some x) = outcome_of unit_told (answer_of (handed_in fate h x))
 
 abbrev pub after_handed : Fate → HubModel → Option Slip → HubModel
 after_handed fate h None = h
@@ -94,7 +93,7 @@ told_stranger (Some x) = Refused (fault.Call NoSlip 0)
 abbrev pub told : Scene → Call → List ℕ → List ℕ → Outcome
 told s (Plain call) body buf = (applied s.hub call body).0
 told s (Compose switch room fate) body buf = told_composed (composition switch (compose s.hub switch buf))
-told s (HandIn fate) body buf = told_handed s.kept
+told s (HandIn fate) body buf = told_handed fate s.hub s.kept
 told s (HandToStranger fate) body buf = told_stranger s.kept
 
 abbrev pub after : Scene → Call → List ℕ → List ℕ → Scene

@@ -35,14 +35,14 @@ after_call s call body = after s call body (unwritten call)
 
 -- The calls of a script with their data, in order, up to its end or to a call that it ends within.
 
-abbrev pub first_and : (List ℕ → List (Call × List ℕ)) → Option (Call × List ℕ × List ℕ) → List (Call × List ℕ)
-first_and more None = []
-first_and more (Some p) = (p.0, p.1) ∷ more p.2
+abbrev pub call_then : (List ℕ → List (Call × List ℕ)) → Option (Call × List ℕ × List ℕ) → List (Call × List ℕ)
+call_then more None = []
+call_then more (Some p) = (p.0, p.1) ∷ more p.2
 
 -- no more of them than n
 unfoldable pub calls_up_to : ℕ → List ℕ → List (Call × List ℕ)
 calls_up_to zero s = []
-calls_up_to (suc n) s = first_and (calls_up_to n) (next_call s)
+calls_up_to (suc n) s = call_then (calls_up_to n) (next_call s)
 
 -- each takes ten bytes at least, so that a script has no more calls than bytes
 abbrev pub calls_in : List ℕ → List (Call × List ℕ)

@@ -44,7 +44,7 @@ impl<S: ActorStore> Player<S> {
 
     // Hands in the kept slip.
     fn hand_in(&mut self, fate: Fate) -> Outcome
-        ensures told { result ≡ told_handed self.old.kept }
+        ensures told { result ≡ told_handed fate (hub_model S.meaning self.old.hub) self.old.kept }
         ensures after { player_scene S.meaning self.new ≡ scene (after_handed fate (hub_model S.meaning self.old.hub) self.old.kept) None }
     {
         let Some(slip) = self.kept.take() else {

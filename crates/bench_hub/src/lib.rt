@@ -1,4 +1,5 @@
-// A hub for the bench: byte-coded scripts of calls, played on a hub of their own.
+// A hub for the bench: byte-coded scripts of calls, played on a hub of their own. How calls and outcomes are written
+// stands in specs/Calls.antt and specs/Outcomes.antt.
 #![tactic(auto)]
 
 ghost use Rattle.std.specs.Prelude.{◌≡◌, ◌≤◌, length};
@@ -24,7 +25,8 @@ use image::block::Image;
 use opening::play;
 use store::table::Table;
 
-// Plays a script on a hub over a table of actors.
+// Plays a script so many times on a hub over a table of the listed actors, and tells how many bytes of `out` hold
+// outcomes: that of the opening, and those of the last time.
 #[unsafe(no_mangle)]
 pub extern "C" fn play_on_table(
     version: u16,
@@ -40,7 +42,7 @@ pub extern "C" fn play_on_table(
     play(Table::open(entries), version, script, times, out)
 }
 
-// Plays a script on a hub over the image of a block.
+// The same on a hub over the image of a block.
 #[unsafe(no_mangle)]
 pub extern "C" fn play_on_image(
     version: u16,

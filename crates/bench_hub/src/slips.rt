@@ -2,7 +2,6 @@
 ghost use Rattle.std.specs.Prelude.{◌≡◌, true, None, Some, is_ok};
 ghost use Rattle.model.specs.Models.{hub_after};
 ghost use Rattle.hub.specs.Memory.{hub_model};
-ghost use Rattle.hub.specs.Slips.{owed};
 ghost use Rattle.bench_hub.specs.Playing.{handed_in, placed, scene};
 
 use crate::call::Fate;
