@@ -1,0 +1,4 @@
+pub mod Owing
+pub mod Reading
+pub mod Calls
+pub mod Plays
