@@ -35,15 +35,14 @@ fn play<S: Store>(open: impl FnOnce() -> Result<Hub<S>, Fault>, script: &[u8], t
     let Some((opening, room)) = out.split_first_chunk_mut::<OUTCOME>() else {
         return 0;
     };
-    let hub = match open() {
-        Ok(hub) => hub,
+    let mut player = match open() {
+        Ok(hub) => Player::new(hub),
         Err(fault) => {
             *opening = refused(fault).bytes();
             return OUTCOME;
         }
     };
     *opening = done().bytes();
-    let mut player = Player::new(hub);
     let mut used = 0;
     for _ in 0..times {
         used = player.play_once(script, room);
@@ -154,7 +153,7 @@ impl<S: Store> Player<S> {
     }
 
     /// Hands in a slip that is still kept.
-    pub fn finish(mut self) {
+    pub fn finish(&mut self) {
         if let Some(slip) = self.kept.take() {
             expect_taken(self.hub.withheld(slip));
         }

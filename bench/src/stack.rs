@@ -9,7 +9,8 @@ use std::os::unix::fs::FileExt;
 use std::thread;
 
 use crate::random::Random;
-use crate::scripts::{Source, random_script};
+use crate::script::{Calls, Operation};
+use crate::scripts::{Script, Source, random_script};
 use crate::side::Side;
 
 /// So many bytes below the caller are painted.
@@ -32,7 +33,7 @@ pub fn high_water_marks(side: Side, seed: u64) -> Marks {
         let mut marks = Marks { table: 0, image: 0, measuring: high_water(|| ()) };
         let mut random = Random::new(seed);
         for _ in 0..SCRIPTS {
-            let script = random_script(&mut random);
+            let script = without_another_hub(random_script(&mut random));
             let mut out = vec![0; script.room];
             let mark = high_water(|| {
                 side.play(&script, &mut out);
@@ -46,6 +47,16 @@ pub fn high_water_marks(side: Side, seed: u64) -> Marks {
         marks
     });
     measured.expect("a thread").join().expect("a thread that measures")
+}
+
+/// A script without operation 8, whose other hub is the script's and would not be on the device.
+fn without_another_hub(mut script: Script) -> Script {
+    let mut calls = Vec::new();
+    for call in Calls::of(&script.calls).filter(|call| Operation::of(call.operation) != Operation::HandElsewhere) {
+        call.write(&mut calls);
+    }
+    script.calls = calls;
+    script
 }
 
 /// How much of the stack below its caller a call has written to.

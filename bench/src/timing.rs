@@ -13,9 +13,9 @@ use crate::scripts::{Script, Source};
 use crate::side::{PLAIN, PROVED, Side};
 
 /// The best of so many repetitions counts.
-const REPETITIONS: usize = 25;
+const REPETITIONS: usize = 150;
 /// A repetition of one script takes the plain side about as long as this.
-const REPETITION: Duration = Duration::from_millis(4);
+const REPETITION: Duration = Duration::from_micros(700);
 /// So many measured calls a script has, and so many times it is played on one hub.
 const MEASURED: u32 = 20;
 const TIMES: u32 = 20;

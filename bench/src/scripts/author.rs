@@ -53,7 +53,7 @@ impl<'r, S: Store> Author<'r, S> {
     }
 
     /// What has been written.
-    pub fn written(self) -> Written {
+    pub fn written(mut self) -> Written {
         self.player.finish();
         self.written
     }
