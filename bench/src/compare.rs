@@ -2,6 +2,7 @@
 
 use std::fmt;
 use std::ops::Range;
+use std::time::{Duration, Instant};
 
 use crate::coverage::Coverage;
 use crate::outcome::{OUTCOME, Outcome};
@@ -16,14 +17,20 @@ const UNTOUCHED: u8 = 0x5C;
 /// So many calls are compared at least.
 const CALLS: u64 = 3_000_000;
 
+/// No longer than this a script is made smaller.
+const PATIENCE: Duration = Duration::from_secs(60);
+
+/// Of a script with more calls than this only the bytes are shown.
+const SHOWN_CALLS: usize = 500;
+
 /// Compares both hubs on random scripts, and tells what these have covered.
 pub fn compare_all(seed: u64) -> Result<Coverage, Box<Difference>> {
     let mut random = Random::new(seed);
     let mut coverage = Coverage::new();
-    compare_one(&long_script(&mut random), &mut coverage)?;
     while coverage.calls() < CALLS {
         compare_one(&random_script(&mut random), &mut coverage)?;
     }
+    compare_one(&long_script(&mut random), &mut coverage)?;
     Ok(coverage)
 }
 
@@ -103,15 +110,17 @@ impl fmt::Display for Entry<'_> {
 
 // Making a script smaller.
 
-/// A script that still differs, and would not if any one of its calls were left out.
+/// A script that still differs, and (unless it takes too long to find that out) would not if any one of its calls
+/// were left out.
 fn smallest(mut script: Script) -> Script {
+    let end = Instant::now() + PATIENCE;
     keep_if_differs(&mut script, |smaller| smaller.times = 1);
     keep_if_differs(&mut script, |smaller| smaller.room = entries(smaller).last().map_or(0, |(_, place)| place.end));
     let mut size = count_calls(&script).div_ceil(2);
-    while size > 0 {
+    while size > 0 && Instant::now() < end {
         let before = count_calls(&script);
         let mut first = 0;
-        while first < count_calls(&script) {
+        while first < count_calls(&script) && Instant::now() < end {
             if !keep_if_differs(&mut script, |smaller| leave_out(smaller, first..first + size)) {
                 first += size;
             }
@@ -185,7 +194,8 @@ impl fmt::Display for Difference {
         writeln!(f, "version {version:#06X}")?;
         writeln!(f, "times   {times}, room for outcomes {room}")?;
         writeln!(f, "script  {}", Hexadecimal(calls))?;
-        for (index, call) in Calls::of(calls).enumerate() {
+        let shown = if count_calls(&self.script) > SHOWN_CALLS { 0 } else { SHOWN_CALLS };
+        for (index, call) in Calls::of(calls).take(shown).enumerate() {
             writeln!(f, "  call {:3}  {}", index + 1, Entry::Call(call))?;
         }
         match self.first() {

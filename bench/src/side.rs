@@ -3,13 +3,16 @@
 use crate::scripts::{Script, Source};
 use crate::{play, proved};
 
+/// A play over a store that is opened from a list of these: version, list, script, times, room for the outcomes.
+type Play<T> = fn(u16, &[T], &[u8], u32, &mut [u8]) -> usize;
+
 /// One of the two hubs, under the same script play. The plays are called through pointers, so that neither can be
 /// compiled into the code that calls it.
 #[derive(Clone, Copy)]
 pub struct Side {
     pub name: &'static str,
-    on_table: fn(u16, &[u16], &[u8], u32, &mut [u8]) -> usize,
-    on_image: fn(u16, &[u8], &[u8], u32, &mut [u8]) -> usize,
+    on_table: Play<u16>,
+    on_image: Play<u8>,
 }
 
 pub const PLAIN: Side = Side { name: "plain", on_table: play::play_on_table, on_image: play::play_on_image };

@@ -74,15 +74,20 @@ impl<'r, S: Store> Author<'r, S> {
     /// Lets the number of packets of one switch run past 65,535.
     pub fn write_past_the_last_number(&mut self) {
         const PACKETS: usize = 66_000;
+        const WHOLE: usize = 36;
         let (switch, actors) = (7, self.known.clone());
         self.enrol_as(switch, &actors);
-        let whole = 36;
-        for count in 1..=PACKETS {
-            self.compose_for(switch, whole, SENT);
-            // Around the last number, and now and then elsewhere, the switch answers and turns.
-            if (65_500..65_600).contains(&count) || self.random.below(500) == 0 {
-                self.answer();
+        let mut packets = 0;
+        while packets < PACKETS {
+            if self.compose_for(switch, WHOLE, SENT).is_done() {
+                packets += 1;
+            } else {
+                // Nothing is outstanding any more: a change makes something.
                 self.value_setting(Operation::SetTarget);
+            }
+            // Around the last number, and now and then elsewhere, the switch answers and turns.
+            if (65_500..65_600).contains(&packets) || self.random.below(500) == 0 {
+                self.answer();
                 self.event();
                 self.question();
             }
@@ -166,10 +171,11 @@ impl<'r, S: Store> Author<'r, S> {
 
     /// A list for an enrolment, lawful most often.
     fn list(&mut self) -> Vec<u16> {
-        let count = match self.random.below(4) {
+        let count = match self.random.below(5) {
             0 => 1,
             1 | 2 => self.random.between(1, 8),
-            _ => self.random.between(1, 65),
+            3 => self.random.between(1, 65),
+            _ => self.random.between(60, 65),
         };
         let mut list = self.known.clone();
         self.random.shuffle(&mut list);
@@ -332,13 +338,14 @@ impl<'r, S: Store> Author<'r, S> {
         self.compose_for(switch, room, fate);
     }
 
-    fn compose_for(&mut self, switch: u16, room: usize, fate: u8) {
+    fn compose_for(&mut self, switch: u16, room: usize, fate: u8) -> Outcome {
         let outcome = self.call(Call::new(Operation::Compose).a(switch).b(room as u16).fate(fate));
         if outcome.is_done() {
             let [length, ..] = outcome.told();
             let bytes = self.buffer[..usize::from(length)].to_vec();
             self.remember(Packet { switch, bytes });
         }
+        outcome
     }
 
     /// How long the next packet for a switch would be.
