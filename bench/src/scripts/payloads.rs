@@ -176,7 +176,7 @@ fn unknown_message(random: &mut Random) -> Vec<u8> {
             break id;
         }
     };
-    let length = random.pick(&[0, 0, 1, 2, 4, 9]);
+    let length = random.pick(&[0, 0, 0, 1, 1, 2, 2, 4, 4, 9, 251]);
     let data = random.bytes(length);
     message(id, random.word(), &data)
 }
