@@ -1,5 +1,7 @@
 //! Compares the proved hub with one in plain Rust on random scripts, and times both.
 
+#![deny(unsafe_code)]
+
 mod compare;
 mod coverage;
 mod outcome;

@@ -265,17 +265,21 @@ impl<S: Store> Hub<S> {
 }
 
 /// Checks every message of a payload, and tells how many are understood. In an event a switch may speak only of
-/// actors that it lists.
+/// actors that it lists; that is told only if no message is at fault by itself.
 fn check(sender: &Switch, is_event: bool, payload: &[u8]) -> Result<usize, Fault> {
     let mut understood = 0;
+    let mut stranger = None;
     for message in Messages::of(payload) {
         let (at, message) = message?;
-        if is_event && message.claimed_actor().is_some_and(|actor| !sender.lists(actor)) {
-            return Err(Fault::at(Reason::NotListed, at));
+        if is_event && stranger.is_none() && message.claimed_actor().is_some_and(|actor| !sender.lists(actor)) {
+            stranger = Some(at);
         }
         understood += usize::from(message.is_understood());
     }
-    Ok(understood)
+    match stranger {
+        Some(at) => Err(Fault::at(Reason::NotListed, at)),
+        None => Ok(understood),
+    }
 }
 
 fn packet_length(actors: usize, with_control: bool) -> usize {
