@@ -8,7 +8,7 @@ use crate::coverage::Coverage;
 use crate::outcome::{OUTCOME, Outcome};
 use crate::random::Random;
 use crate::script::{Call, Calls, Operation};
-use crate::scripts::{Script, Source, long_script, random_script};
+use crate::scripts::{Script, Source, long_script, payloads, random_script};
 use crate::side::{PLAIN, PROVED, Side};
 
 /// What `out` holds before a play, so that a stray write shows.
@@ -111,26 +111,67 @@ impl fmt::Display for Entry<'_> {
 // Making a script smaller.
 
 /// A script that still differs, and (unless it takes too long to find that out) would not if any one of its calls
-/// were left out.
+/// or any one byte of their payloads were left out.
 fn smallest(mut script: Script) -> Script {
     let end = Instant::now() + PATIENCE;
     keep_if_differs(&mut script, |smaller| smaller.times = 1);
     keep_if_differs(&mut script, |smaller| smaller.room = entries(smaller).last().map_or(0, |(_, place)| place.end));
-    let mut size = count_calls(&script).div_ceil(2);
+    leave_out_calls(&mut script, end);
+    shorten_payloads(&mut script, end);
+    script
+}
+
+/// Leaves out runs of calls, ever shorter ones.
+fn leave_out_calls(script: &mut Script, end: Instant) {
+    let mut size = count_calls(script).div_ceil(2);
     while size > 0 && Instant::now() < end {
-        let before = count_calls(&script);
+        let before = count_calls(script);
         let mut first = 0;
-        while first < count_calls(&script) && Instant::now() < end {
-            if !keep_if_differs(&mut script, |smaller| leave_out(smaller, first..first + size)) {
+        while first < count_calls(script) && Instant::now() < end {
+            if !keep_if_differs(script, |smaller| leave_out(smaller, first..first + size)) {
                 first += size;
             }
         }
         // What could not go alone may go now that others are gone.
-        if size > 1 || count_calls(&script) == before {
+        if size > 1 || count_calls(script) == before {
             size /= 2;
         }
     }
-    script
+}
+
+/// Cuts messages and single bytes out of payloads.
+fn shorten_payloads(script: &mut Script, end: Instant) {
+    for index in 0..count_calls(script) {
+        for size in [256, 64, 16, 8, 6, 4, 1] {
+            let mut first = 0;
+            while payload_length(script, index) >= first + size && Instant::now() < end {
+                if !keep_if_differs(script, |smaller| cut_payload(smaller, index, first..first + size)) {
+                    first += 1;
+                }
+            }
+        }
+    }
+}
+
+fn payload_length(script: &Script, index: usize) -> usize {
+    match Calls::of(&script.calls).nth(index) {
+        Some(call) if Operation::of(call.operation) == Operation::Take => call.data.len(),
+        _ => 0,
+    }
+}
+
+/// Cuts bytes out of the payload of one call, whose FrameLength follows.
+fn cut_payload(script: &mut Script, index: usize, gone: Range<usize>) {
+    let mut calls = Vec::new();
+    for (count, call) in Calls::of(&script.calls).enumerate() {
+        let mut data = call.data.to_vec();
+        if count == index {
+            data.drain(gone.clone());
+            payloads::fill_in_length(&mut data);
+        }
+        Call { data: &data, ..call }.write(&mut calls);
+    }
+    script.calls = calls;
 }
 
 /// Makes a change to a script if it differs still with it.

@@ -2,7 +2,7 @@
 //! hub composes and can aim at the edges of what the hub holds.
 
 mod author;
-mod payloads;
+pub mod payloads;
 mod stores;
 
 use crate::outcome::OUTCOME;

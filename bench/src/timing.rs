@@ -5,6 +5,7 @@
 //! without the calls that only lead up to them.
 
 use std::fmt;
+use std::ops::RangeInclusive;
 use std::time::{Duration, Instant};
 
 use crate::outcome::{OUTCOME, Outcome};
@@ -13,16 +14,19 @@ use crate::scripts::{Script, Source};
 use crate::side::{PLAIN, PROVED, Side};
 
 /// The best of so many repetitions counts.
-const REPETITIONS: usize = 150;
+const REPETITIONS: usize = 400;
 /// A repetition of one script takes the plain side about as long as this.
 const REPETITION: Duration = Duration::from_micros(700);
-/// So many measured calls a script has, and so many times it is played on one hub.
+/// So many measured calls a script has.
 const MEASURED: u32 = 20;
+/// So many times a script is played on one hub, unless that takes so long that others get the processor meanwhile.
 const TIMES: u32 = 20;
 /// So many answers the script of answers has, which is played once on each hub.
 const ANSWERS: u16 = 100;
 const SENT: u8 = 1;
 const ACTORS: u16 = 64;
+/// The actor in the middle of every list.
+const MIDDLE: u16 = 32;
 const SWITCHES: u16 = 32;
 const FULL_REFRESH: u16 = 792;
 
@@ -73,8 +77,12 @@ impl Case {
         for _ in 0..MEASURED {
             self.measured(call);
         }
-        self.full.times = TIMES;
-        self.base.times = TIMES;
+        self.times(TIMES)
+    }
+
+    fn times(mut self, times: u32) -> Self {
+        self.full.times = times;
+        self.base.times = times;
         self
     }
 
@@ -123,18 +131,23 @@ fn add(script: &mut Script, call: Call) {
 
 fn cases() -> Vec<Case> {
     let set_target = |actor| Call::new(Operation::SetTarget).a(actor).b(1);
+    let (one, all) = (event(MIDDLE..=MIDDLE), event(1..=ACTORS));
     vec![
-        Case::new("take an event with 1 EditValue, 1 switch", 1).repeating(take(&event(1))).expecting(0, 1),
-        Case::new("take an event with 64 EditValues, 1 switch", 1).repeating(take(&event(64))).expecting(0, 64),
-        Case::new("take an event with 1 EditValue, 32 switches", SWITCHES).repeating(take(&event(1))).expecting(0, 1),
+        Case::new("take an event with 1 EditValue, 1 switch", 1).repeating(take(&one)).expecting(0, 1),
+        Case::new("take an event with 64 EditValues, 1 switch", 1).repeating(take(&all)).expecting(0, ACTORS),
+        Case::new("take an event with 1 EditValue, 32 switches", SWITCHES).repeating(take(&one)).expecting(0, 1),
         Case::new("take an event with 64 EditValues, 32 switches", SWITCHES)
-            .repeating(take(&event(64)))
-            .expecting(0, 64),
-        answers("take the awaited answer to a full refresh").expecting(1, 129),
+            .repeating(take(&all))
+            .times(1)
+            .expecting(0, ACTORS),
+        answers("take the awaited answer to a full refresh").expecting(1, 2 * ACTORS + 1),
         Case::new("compose a full refresh, sent", 1).repeating(compose(1)).expecting(FULL_REFRESH, ACTORS),
         Case::new("compose refused at once, same buffer", 1).repeating(compose(2)),
-        Case::new("set_target, first actor of 32 lists of 64", SWITCHES).repeating(set_target(1)).expecting(0, 0),
-        Case::new("set_target, last actor of 32 lists of 64", SWITCHES).repeating(set_target(ACTORS)).expecting(0, 0),
+        Case::new("set_target, first of 64 actors, 32 switches", SWITCHES).repeating(set_target(1)).expecting(0, 0),
+        Case::new("set_target, middle of 64 actors, 32 switches", SWITCHES)
+            .repeating(set_target(MIDDLE))
+            .expecting(0, 0),
+        Case::new("set_target, last of 64 actors, 32 switches", SWITCHES).repeating(set_target(ACTORS)).expecting(0, 0),
     ]
 }
 
@@ -158,9 +171,9 @@ fn answers(name: &'static str) -> Case {
     case
 }
 
-/// An event of switch 1 with so many EditValues, each of another actor.
-fn event(edits: u16) -> Vec<u8> {
-    let edits = (1..=edits).flat_map(|actor| value_message(0x42, actor));
+/// An event of switch 1 with an EditValue of each of these actors.
+fn event(actors: RangeInclusive<u16>) -> Vec<u8> {
+    let edits = actors.flat_map(|actor| value_message(0x42, actor));
     payload(0, edits.collect())
 }
 

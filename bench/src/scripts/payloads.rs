@@ -136,7 +136,8 @@ fn put_word(payload: &mut [u8], at: usize, word: u16) {
     }
 }
 
-fn fill_in_length(payload: &mut [u8]) {
+/// Lets FrameLength agree with the payload.
+pub fn fill_in_length(payload: &mut [u8]) {
     put_word(payload, 2, payload.len() as u16);
 }
 
