@@ -45,6 +45,7 @@ fn hear<S: ActorStore>(hub: &mut Hub<S>, line: &[u8]) -> Result<(Arrival, usize)
 }
 
 // What a line is answered with.
+#[derive(Drop)]
 struct Heard(Result<(Arrival, usize), Fault>);
 
 impl fmt::Display for Heard {
