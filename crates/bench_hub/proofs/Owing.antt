@@ -1,36 +1,24 @@
 -- A kept slip stays owed, whatever is called.
-use Rattle.std.proofs.Common.{◌≡◌, ℕ, Bool, true, false, cond, not, eqb, List, [], ◌∷◌, ◌++◌, take, ℤ, is_some, is_ok, Some, None, Ok, Err, Option, Result, sym, refl, ap, ◌∙◌, subst, ⊎_elim}
-use Rattle.std.specs.Option.{ForSome, option_map, option_or}
+use Rattle.std.proofs.Common.{◌≡◌, ℕ, Bool, true, false, cond, List, take, is_ok, Some, None, Ok, Err, Option, sym, refl, ap, ◌∙◌, subst, ⊎_elim}
+use Rattle.std.specs.Option.{ForSome, option_map}
 use Rattle.std.proofs.lemmas.Bool.{cases_eq, eq-eqb, true≢false}
-use Rattle.fault.specs.declared.CallFault.TheVariants.{ControlWord, NoSlip}
-use Rattle.fault.specs.declared.Fault.{Fault}
+use Rattle.fault.specs.declared.CallFault.TheVariants.{NoSlip}
 use Rattle.fault.specs.declared.Fault.TheVariants as fault
-use Rattle.fault.specs.declared.FrameFault.TheVariants.{Project}
-use Rattle.packet.proofs.Spelling.{past, same_answer}
-use Rattle.packet.specs.declared.records.Message.{Message}
-use Rattle.packet.specs.declared.words.Descriptor.{Descriptor}
-use Rattle.packet.specs.Messages.{understood}
-use Rattle.packet.specs.Reading.{messages_from}
-use Rattle.packet.specs.Words.{descriptor_of}
-use Rattle.store.specs.declared.meaning.Half.{Half}
+use Rattle.packet.proofs.Spelling.{same_answer}
 use Rattle.store.specs.declared.meaning.Half.TheVariants as half
-use Rattle.store.specs.Meaning.{put_answer}
-use Rattle.model.specs.declared.told.Arrival.{Arrival}
-use Rattle.model.specs.declared.told.Arrival.TheVariants as arrival
-use Rattle.model.specs.Composing.{Composition, brought_back, closed_slip, compose, compose_for, composed, hand_in}
-use Rattle.model.specs.Models.{HubModel, Step, SwitchModel, change_switch, find_switch, hub_after, is_number, touched, with_control, with_switches}
-use Rattle.model.specs.Opening.{enrol, enrol_fault, new_switch, unless}
-use Rattle.model.specs.Settings.{at_enrolled, granted, lawful_control, set_control, set_value, with_value}
-use Rattle.model.specs.Taking.{answered, event_unless, first_unlisted, heard, heard_message, take_answer, take_event, take_from, take_messages, take_ours, take_payload}
+use Rattle.model.specs.Composing.{Composition, brought_back, closed_slip, compose, composed, hand_in}
+use Rattle.model.specs.Models.{HubModel, Step, SwitchModel, change_switch, find_switch, hub_after, is_number}
+use Rattle.model.specs.Opening.{enrol}
+use Rattle.model.specs.Settings.{set_control, set_value}
+use Rattle.model.specs.Taking.{take_payload}
 use Rattle.law.proofs.Elements.{err≢ok}
 use Rattle.law.proofs.Granted.{compose_is}
-use Rattle.law.proofs.Hearing.{hear_keeps}
-use Rattle.law.proofs.Switches.{KeepsId, find_append, find_at_other, find_at_same, find_map, found_after}
-use Rattle.law.proofs.Taken.{hear_all}
+use Rattle.law.proofs.Switches.{KeepsId, find_at_other, find_at_same}
 use Rattle.hub.specs.Compositions.{composition}
 use Rattle.hub.specs.declared.composing.Composed.{Composed}
 use Rattle.hub.specs.declared.slip.Slip.{Slip}
-use Rattle.hub.specs.Slips.{owed, owed_by}
+use Rattle.hub.specs.Slips.{owed, owed_by, slip_in}
+use Rattle.hub.proofs.Kept.{SameSlips, slips_control, slips_enrol, slips_take, slips_value, vacant}
 use Rattle.bench_hub.specs.declared.call.Fate.{Fate}
 use Rattle.bench_hub.specs.declared.call.Fate.TheVariants.{Kept, Sent, Withheld}
 use Rattle.bench_hub.specs.declared.call.Plain.{Plain}
@@ -42,95 +30,24 @@ use Rattle.bench_hub.specs.Playing.{Scene, applied, handed_in, placed}
 abbrev pub StillOwed : HubModel → HubModel → Type 0
 StillOwed h g = (x : Slip) → owed h x ≡ true → owed g x ≡ true
 
--- Steps that keep every switch's slip.
+-- whether a slip is owed lies in the slip that its switch has open
+owed_out : (x : Slip) (o : Option SwitchModel) → owed_by x o ≡ is_number (slip_in o) x.number
+owed_out x None = refl
+owed_out x (Some m) = refl
 
-abbrev KeepsSlip : (SwitchModel → SwitchModel) → Type 0
-KeepsSlip f = (m : SwitchModel) → (f m).numbers.slip ≡ m.numbers.slip
-
-mapped : (f : SwitchModel → SwitchModel) → KeepsSlip f → (x : Slip) (o : Option SwitchModel) → owed_by x o ≡ true → owed_by x (option_map f o) ≡ true
-mapped f k x None e = e
-mapped f k x (Some m) e = ap (λ (n : Option ℕ). is_number n x.number) (k m) ∙ e
-
-changed : (h : HubModel) (id : ℕ) (f : SwitchModel → SwitchModel) → KeepsId f → KeepsSlip f → StillOwed h (change_switch id f h)
-changed h id f i k x e = found_after (λ o. owed_by x o ≡ true) id x.switch f i h.switches (λ o p. mapped f k x o p) e
-
-set : (h : HubModel) (a : ℕ) (half : Half) (v : ℤ) → StillOwed h (with_value a half v h)
-set h a half v x e = ap (owed_by x) (find_map (touched a) (λ m. refl) x.switch h.switches) ∙ mapped (touched a) (λ m. refl) x (find_switch x.switch h.switches) e
-
-after_enrol : (h : HubModel) (id : ℕ) (list : List ℕ) → StillOwed h (hub_after h (enrol h id list))
-after_enrol h id list x e = go (enrol_fault h id list)
-  where
-    same : (b : Bool) (o : Option SwitchModel) → owed_by x o ≡ true → owed_by x (option_or o (cond b (Some (new_switch id list)) None)) ≡ true
-    same b (Some m) p = p
-    same b None p = absurd (true≢false (sym p))
-
-    go : (o : Option Fault) → owed (hub_after h (unless {A = Unit {0} × HubModel} o (tt, with_switches (h.switches ++ new_switch id list ∷ []) h))) x ≡ true
-    go None = ap (owed_by x) (find_append x.switch h.switches (new_switch id list)) ∙ same (eqb id x.switch) (find_switch x.switch h.switches) e
-    go (Some f) = e
-
-after_value : (h : HubModel) (a : ℕ) (half : Half) (v : ℤ) → StillOwed h (hub_after h (set_value h a half v))
-after_value h a half v x e = go (put_answer h.store a v)
-  where
-    go : (r : Result Unit Fault) → owed (hub_after h (granted r (with_value a half v h))) x ≡ true
-    go (Ok u) = set h a half v x e
-    go (Err f) = e
-
-after_control : (h : HubModel) (id word : ℕ) → StillOwed h (hub_after h (set_control h id word))
-after_control h id word x e = go (find_switch id h.switches) (not (lawful_control word))
-  where
-    go : (o : Option SwitchModel) (b : Bool)
-        → owed (hub_after h (at_enrolled {A = Unit {0} × HubModel} o (λ _. cond b (Err (fault.Call ControlWord 0)) (Ok (tt, change_switch id (with_control word) h))))) x ≡ true
-    go None b = e
-    go (Some m) true = e
-    go (Some m) false = changed h id (with_control word) (λ n. refl) (λ n. refl) x e
-
--- Taking a payload.
-
-after_heard : (x : Slip) (id : ℕ) (ms : List (ℕ × Message)) (h : HubModel) → owed h x ≡ true → owed (heard id ms h) x ≡ true
-unfolding heard hear_all
-after_heard x id [] h e = e
-after_heard x id (m ∷ ms) h e =
-    after_heard x id ms (heard_message id m.1 h)
-    (hear_keeps (λ g. owed g x ≡ true) (λ g a v _. set g a half.Target v x) (λ g s r. changed g s _ (λ n. refl) (λ n. refl) x)
-    (λ g s r. changed g s _ (λ n. refl) (λ n. refl) x) id (m.1 ∷ []) h e)
-
-after_messages : (h : HubModel) (m : SwitchModel) (d : Descriptor) (r : Result (List (ℕ × Message)) Fault) → StillOwed h (hub_after h (take_messages h m d r))
-after_messages h m d (Err f) x e = e
-after_messages h m d (Ok ms) x e = go (eqb d.number 0)
-  where
-    event : (o : Option ℕ) → owed (hub_after h (event_unless o (understood ms) (heard d.switch ms h))) x ≡ true
-    event None = after_heard x d.switch ms h e
-    event (Some place) = e
-
-    answer : (b : Bool)
-        → owed (hub_after {A = Arrival × ℕ} h (cond b (Ok ((arrival.Answer, understood ms), change_switch d.switch answered h)) (Ok ((arrival.Stale, understood ms), h)))) x ≡ true
-    answer true = changed h d.switch answered (λ n. refl) (λ n. refl) x e
-    answer false = e
-
-    go : (b : Bool) → owed (hub_after h (cond b (take_event h m d.switch ms) (take_answer h m d.switch d.number ms))) x ≡ true
-    go true = event (first_unlisted m.items ms)
-    go false = answer (is_number m.numbers.awaited d.number)
-
-after_take : (h : HubModel) (payload : List ℕ) → StillOwed h (hub_after h (take_payload h payload))
-after_take h payload x e = go (descriptor_of payload)
-  where
-    ours : (d : Descriptor) (b : Bool) (o : Option SwitchModel) → owed (hub_after h (cond b (Err (fault.Frame Project 8)) (take_from h o d payload))) x ≡ true
-    ours d true o = e
-    ours d false None = e
-    ours d false (Some m) = after_messages h m d (messages_from payload 16) x e
-
-    go : (r : Result Descriptor Fault) → owed (hub_after h (take_ours h r payload)) x ≡ true
-    go (Err f) = e
-    go (Ok d) = ours d (not (eqb d.project h.site.project)) (find_switch d.switch h.switches)
+still_owed : (h g : HubModel) → SameSlips h g → StillOwed h g
+still_owed h g same x e =
+    owed_out x (find_switch x.switch g.switches) ∙ ap (λ (o : Option ℕ). is_number o x.number) (same x.switch)
+    ∙ sym (owed_out x (find_switch x.switch h.switches)) ∙ e
 
 -- a call that opens and closes no slip
 pub after_plain : (h : HubModel) (call : Plain) (body : List ℕ) → StillOwed h (applied h call body).1
 after_plain h plain.Nothing body x e = e
-after_plain h (plain.Enrol switch) body x e = after_enrol h switch (take 65 (words_in body)) x e
-after_plain h (plain.Actual actor value) body x e = after_value h actor half.Actual value x e
-after_plain h (plain.Target actor value) body x e = after_value h actor half.Target value x e
-after_plain h (plain.Control switch word) body x e = after_control h switch word x e
-after_plain h plain.Take body x e = after_take h body x e
+after_plain h (plain.Enrol switch) body x e = still_owed h (hub_after h (enrol h switch (take 65 (words_in body)))) (slips_enrol h switch (take 65 (words_in body))) x e
+after_plain h (plain.Actual actor value) body x e = still_owed h (hub_after h (set_value h actor half.Actual value)) (slips_value h actor half.Actual value) x e
+after_plain h (plain.Target actor value) body x e = still_owed h (hub_after h (set_value h actor half.Target value)) (slips_value h actor half.Target value) x e
+after_plain h (plain.Control switch word) body x e = still_owed h (hub_after h (set_control h switch word)) (slips_control h switch word) x e
+after_plain h plain.Take body x e = still_owed h (hub_after h (take_payload h body)) (slips_take h body) x e
 after_plain h (plain.ActorMark switch actor) body x e = e
 after_plain h (plain.ControlMark switch) body x e = e
 after_plain h (plain.Flags switch) body x e = e
@@ -138,16 +55,7 @@ after_plain h (plain.LatestKey switch) body x e = e
 after_plain h (plain.Reading switch) body x e = e
 after_plain h (plain.Outstanding switch) body x e = e
 
--- Composing, for a switch that has no slip out.
-
-vacant : (h : HubModel) (id : ℕ) (buf : List ℕ) (o : Option SwitchModel) (p : Composition × HubModel) → at_enrolled o (compose_for h id buf) ≡ Ok p
-    → (x : Slip) → owed_by x o ≡ true → ⊥
-vacant h id buf None p e x k = true≢false (sym k)
-vacant h id buf (Some m) p e x k = go m.numbers.slip (past (is_some m.numbers.slip) _ _ p e).0 k
-  where
-    go : (o : Option ℕ) → is_some o ≡ false → is_number o x.number ≡ true → ⊥
-    go None q r = true≢false (sym r)
-    go (Some n) q r = true≢false q
+-- Composing, for a switch that has no slip open.
 
 -- a step of that switch alone
 elsewhere : (h g : HubModel) (id : ℕ) → ((x : Slip) → x.switch ≡ id → owed h x ≡ true → ⊥) → ((s : ℕ) → (id ≡ s → ⊥) → find_switch s g.switches ≡ find_switch s h.switches) → StillOwed h g
@@ -188,7 +96,9 @@ module _ (h : HubModel) (id : ℕ) (buf : List ℕ) (c : Composition) (g : HubMo
       ap (owed_by (record { switch = id; number = c.number })) at ∙ ap (λ (n : ℕ). is_number (composed m).numbers.slip n) i.number ∙ eq-eqb m.numbers.next m.numbers.next refl
 
   none : (x : Slip) → x.switch ≡ id → owed h x ≡ true → ⊥
-  none x q o = vacant h id buf (find_switch id h.switches) (c, g) e x (ap (λ (n : ℕ). owed_by x (find_switch n h.switches)) (sym q) ∙ o)
+  none x q o =
+      let here = ap (λ (n : ℕ). owed_by x (find_switch n h.switches)) (sym q) ∙ o in
+      true≢false (sym here ∙ owed_out x (find_switch id h.switches) ∙ ap (λ (n : Option ℕ). is_number n x.number) (vacant h id buf (find_switch id h.switches) (c, g) e))
 
   same : (s : ℕ) → (id ≡ s → ⊥) → find_switch s g.switches ≡ find_switch s h.switches
   same s d = ap (λ (k : HubModel). find_switch s k.switches) (compose_is h id buf c g e).after ∙ find_at_other id s composed (λ x. refl) d h.switches

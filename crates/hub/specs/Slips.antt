@@ -1,5 +1,5 @@
--- Slips handed in: refused, one comes back and is still owed.
-use Rattle.std.specs.Prelude.{Bool, false, Some, None, Ok, Err, Option, Result}
+-- Slips: which are open, and how one is handed in: refused, it comes back and is still owed.
+use Rattle.std.specs.Prelude.{ℕ, Bool, false, Some, None, Ok, Err, Option, Result}
 use Rattle.fault.specs.declared.Fault.{Fault}
 use Rattle.model.specs.Models.{HubModel, Step, SwitchModel, find_switch, is_number}
 use Rattle.hub.specs.declared.slip.Slip.{Slip}
@@ -15,3 +15,11 @@ owed_by slip (Some m) = is_number m.numbers.slip slip.number
 -- whether the hub has this slip open
 abbrev pub owed : HubModel → Slip → Bool
 owed h slip = owed_by slip (find_switch slip.switch h.switches)
+
+-- the number of the slip that a switch has open, if it has one
+abbrev pub slip_in : Option SwitchModel → Option ℕ
+slip_in None = None
+slip_in (Some m) = m.numbers.slip
+
+abbrev pub slip_out : HubModel → ℕ → Option ℕ
+slip_out h s = slip_in (find_switch s h.switches)

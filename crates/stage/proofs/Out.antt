@@ -1,40 +1,33 @@
 -- The slips at hand are those that the hub has out: every call keeps this, where a composed slip joins them and one that is handed in leaves.
-use Rattle.std.proofs.Common.{◌≡◌, ℕ, suc, ◌<◌, Bool, true, false, cond, not, eqb, List, [], ◌∷◌, ◌++◌, length, get_or, take, drop, ℤ, is_some, is_ok, Some, None, Ok, Err, Option, Result, sym, refl, ap, ◌∙◌, append-nil, drop-cons}
-use Rattle.std.specs.Option.{option_map, option_or, option_to_list}
+use Rattle.std.proofs.Common.{◌≡◌, ℕ, suc, ◌<◌, Bool, true, false, cond, not, eqb, List, [], ◌∷◌, ◌++◌, length, get_or, take, drop, ℤ, is_ok, Some, None, Ok, Err, Option, sym, refl, ap, ◌∙◌, append-nil, drop-cons}
+use Rattle.std.specs.Option.{option_map, option_to_list}
 use Rattle.std.proofs.lemmas.List.{take-append-drop}
-use Rattle.std.proofs.lemmas.Bool.{eq-eqb, true≢false}
+use Rattle.std.proofs.lemmas.Bool.{eq-eqb}
 use Rattle.std.proofs.lemmas.Option.{none-some}
-use Rattle.fault.specs.declared.CallFault.TheVariants.{ControlWord, NoSlip}
+use Rattle.fault.specs.declared.CallFault.TheVariants.{NoSlip}
 use Rattle.fault.specs.declared.Fault.{Fault}
 use Rattle.fault.specs.declared.Fault.TheVariants as fault
-use Rattle.fault.specs.declared.FrameFault.TheVariants.{MajorVersion, Project}
-use Rattle.packet.proofs.Spelling.{past, same_answer}
-use Rattle.packet.specs.declared.records.Message.{Message}
-use Rattle.packet.specs.declared.words.Descriptor.{Descriptor}
-use Rattle.packet.specs.Messages.{understood}
-use Rattle.packet.specs.Reading.{messages_from}
-use Rattle.packet.specs.Words.{descriptor_of, major}
+use Rattle.fault.specs.declared.FrameFault.TheVariants.{MajorVersion}
+use Rattle.packet.proofs.Spelling.{same_answer}
+use Rattle.packet.specs.Words.{major}
 use Rattle.store.specs.declared.meaning.Half.{Half}
-use Rattle.store.specs.declared.meaning.Half.TheVariants.{Target}
-use Rattle.store.specs.Meaning.{Known, put_answer}
-use Rattle.model.specs.declared.told.Arrival.{Arrival}
-use Rattle.model.specs.declared.told.Arrival.TheVariants as arrival
+use Rattle.store.specs.Meaning.{Known}
 use Rattle.model.specs.declared.told.Site.{Site}
-use Rattle.model.specs.Composing.{Composition, brought_back, closed_slip, compose, compose_for, composed, hand_in}
-use Rattle.model.specs.Models.{HubModel, Step, SwitchModel, change_switch, find_switch, hub_after, is_number, touched, with_control, with_switches}
-use Rattle.model.specs.Opening.{enrol, enrol_fault, new_hub, new_switch, opened, unless}
-use Rattle.model.specs.Settings.{at_enrolled, granted, lawful_control, set_control, set_value, with_value}
-use Rattle.model.specs.Taking.{answered, event_unless, first_unlisted, heard, heard_message, take_answer, take_event, take_from, take_messages, take_ours, take_payload}
+use Rattle.model.specs.Composing.{Composition, brought_back, closed_slip, compose, composed, hand_in}
+use Rattle.model.specs.Models.{HubModel, Step, SwitchModel, change_switch, find_switch, hub_after, is_number}
+use Rattle.model.specs.Opening.{enrol, new_hub, opened}
+use Rattle.model.specs.Settings.{set_control, set_value}
+use Rattle.model.specs.Taking.{take_payload}
 use Rattle.law.proofs.Elements.{cons≢nil, err≢ok}
 use Rattle.law.proofs.Granted.{compose_is}
-use Rattle.law.proofs.Hearing.{hear_keeps}
-use Rattle.law.proofs.Switches.{KeepsId, find_append, find_map, found_after, one_step}
-use Rattle.law.proofs.Taken.{hear_all}
+use Rattle.law.proofs.Switches.{KeepsId, one_step}
 use Rattle.hub.specs.Compositions.{composition}
 use Rattle.hub.specs.Memory.{handed_back}
 use Rattle.hub.specs.declared.composing.Composed.{Composed}
 use Rattle.hub.specs.declared.slip.Slip.{Slip}
-use Rattle.stage.specs.Slips.{HoldsAll, SameOut, handed_in, numbers_for, slip_in, slip_out}
+use Rattle.hub.specs.Slips.{slip_in, slip_out}
+use Rattle.hub.proofs.Kept.{SameSlips, slips_control, slips_enrol, slips_take, slips_value, vacant}
+use Rattle.stage.specs.Slips.{HoldsAll, SameOut, handed_in, numbers_for}
 use Rattle.stage.specs.declared.slips.Fate.{Fate}
 use Rattle.stage.specs.declared.slips.Fate.TheVariants.{Sent, Withheld}
 
@@ -44,96 +37,9 @@ holds_new site store s = refl
 
 -- Steps that keep every switch's slip.
 
-abbrev KeepsSlip : (SwitchModel → SwitchModel) → Type 0
-KeepsSlip f = (m : SwitchModel) → (f m).numbers.slip ≡ m.numbers.slip
-
-slip_mapped : (f : SwitchModel → SwitchModel) → KeepsSlip f → (o : Option SwitchModel) → slip_in (option_map f o) ≡ slip_in o
-slip_mapped f k None = refl
-slip_mapped f k (Some m) = k m
-
 -- a hub that has out what another has
 holds_still : (h g : HubModel) (slips : List Slip) → ((s : ℕ) → slip_out g s ≡ slip_out h s) → HoldsAll h slips → HoldsAll g slips
 holds_still h g slips e all s = all s ∙ ap option_to_list (sym (e s))
-
-holds_changed : (h : HubModel) (id : ℕ) (f : SwitchModel → SwitchModel) (slips : List Slip) → KeepsId f → KeepsSlip f → HoldsAll h slips → HoldsAll (change_switch id f h) slips
-holds_changed h id f slips i k all =
-    holds_still h (change_switch id f h) slips (λ s. found_after (λ o. slip_in o ≡ slip_out h s) id s f i h.switches (λ o e. slip_mapped f k o ∙ e) refl) all
-
-holds_set : (h : HubModel) (a : ℕ) (half : Half) (v : ℤ) (slips : List Slip) → HoldsAll h slips → HoldsAll (with_value a half v h) slips
-holds_set h a half v slips all =
-    holds_still h (with_value a half v h) slips (λ s. ap slip_in (find_map (touched a) (λ m. refl) s h.switches) ∙ slip_mapped (touched a) (λ m. refl) (find_switch s h.switches)) all
-
-pub holds_enrol : (h : HubModel) (id : ℕ) (list : List ℕ) (slips : List Slip) → HoldsAll h slips → HoldsAll (hub_after h (enrol h id list)) slips
-holds_enrol h id list slips all = go (enrol_fault h id list)
-  where
-    -- a new switch has no slip out
-    same : (b : Bool) (o : Option SwitchModel) → slip_in (option_or o (cond b (Some (new_switch id list)) None)) ≡ slip_in o
-    same b (Some m) = refl
-    same true None = refl
-    same false None = refl
-
-    go : (o : Option Fault) → HoldsAll (hub_after h (unless {A = Unit {0} × HubModel} o (tt, with_switches (h.switches ++ new_switch id list ∷ []) h))) slips
-    go None =
-        holds_still h (with_switches (h.switches ++ new_switch id list ∷ []) h) slips
-        (λ s. ap slip_in (find_append s h.switches (new_switch id list)) ∙ same (eqb id s) (find_switch s h.switches)) all
-    go (Some f) = all
-
-pub holds_value : (h : HubModel) (a : ℕ) (half : Half) (v : ℤ) (slips : List Slip) → HoldsAll h slips → HoldsAll (hub_after h (set_value h a half v)) slips
-holds_value h a half v slips all = go (put_answer h.store a v)
-  where
-    go : (r : Result Unit Fault) → HoldsAll (hub_after h (granted r (with_value a half v h))) slips
-    go (Ok x) = holds_set h a half v slips all
-    go (Err e) = all
-
-pub holds_control : (h : HubModel) (id word : ℕ) (slips : List Slip) → HoldsAll h slips → HoldsAll (hub_after h (set_control h id word)) slips
-holds_control h id word slips all = go (find_switch id h.switches) (not (lawful_control word))
-  where
-    go : (o : Option SwitchModel) (b : Bool)
-        → HoldsAll (hub_after h (at_enrolled {A = Unit {0} × HubModel} o (λ _. cond b (Err (fault.Call ControlWord 0)) (Ok (tt, change_switch id (with_control word) h))))) slips
-    go None b = all
-    go (Some m) true = all
-    go (Some m) false = holds_changed h id (with_control word) slips (λ n. refl) (λ n. refl) all
-
--- Taking.
-
--- each message by itself, since what an event keeps is known of messages without offsets
-holds_heard : (slips : List Slip) (id : ℕ) (ms : List (ℕ × Message)) (h : HubModel) → HoldsAll h slips → HoldsAll (heard id ms h) slips
-unfolding heard hear_all
-holds_heard slips id [] h all = all
-holds_heard slips id (m ∷ ms) h all =
-    holds_heard slips id ms (heard_message id m.1 h)
-    (hear_keeps (λ g. HoldsAll g slips) (λ g a v _. holds_set g a Target v slips) (λ g s r. holds_changed g s _ slips (λ n. refl) (λ n. refl))
-    (λ g s r. holds_changed g s _ slips (λ n. refl) (λ n. refl)) id (m.1 ∷ []) h all)
-
-holds_messages : (h : HubModel) (m : SwitchModel) (d : Descriptor) (slips : List Slip) (r : Result (List (ℕ × Message)) Fault) → HoldsAll h slips
-    → HoldsAll (hub_after h (take_messages h m d r)) slips
-holds_messages h m d slips (Err e) all = all
-holds_messages h m d slips (Ok ms) all = go (eqb d.number 0)
-  where
-    event : (o : Option ℕ) → HoldsAll (hub_after h (event_unless o (understood ms) (heard d.switch ms h))) slips
-    event None = holds_heard slips d.switch ms h all
-    event (Some place) = all
-
-    answer : (b : Bool)
-        → HoldsAll (hub_after {A = Arrival × ℕ} h (cond b (Ok ((arrival.Answer, understood ms), change_switch d.switch answered h)) (Ok ((arrival.Stale, understood ms), h)))) slips
-    answer true = holds_changed h d.switch answered slips (λ n. refl) (λ n. refl) all
-    answer false = all
-
-    go : (b : Bool) → HoldsAll (hub_after h (cond b (take_event h m d.switch ms) (take_answer h m d.switch d.number ms))) slips
-    go true = event (first_unlisted m.items ms)
-    go false = answer (is_number m.numbers.awaited d.number)
-
-pub holds_take : (h : HubModel) (payload : List ℕ) (slips : List Slip) → HoldsAll h slips → HoldsAll (hub_after h (take_payload h payload)) slips
-holds_take h payload slips all = go (descriptor_of payload)
-  where
-    ours : (d : Descriptor) (b : Bool) (o : Option SwitchModel) → HoldsAll (hub_after h (cond b (Err (fault.Frame Project 8)) (take_from h o d payload))) slips
-    ours d true o = all
-    ours d false None = all
-    ours d false (Some m) = holds_messages h m d slips (messages_from payload 16) all
-
-    go : (r : Result Descriptor Fault) → HoldsAll (hub_after h (take_ours h r payload)) slips
-    go (Err e) = all
-    go (Ok d) = ours d (not (eqb d.project h.site.project)) (find_switch d.switch h.switches)
 
 -- Composing: the new slip is behind the others.
 
@@ -146,15 +52,6 @@ numbers_append s (x ∷ a) b = go (eqb x.switch s) (numbers_append s a b)
         → cond t (x.number ∷ numbers_for s (a ++ b)) (numbers_for s (a ++ b)) ≡ cond t (x.number ∷ numbers_for s a) (numbers_for s a) ++ numbers_for s b
     go true ih = ap (λ (l : List ℕ). x.number ∷ l) ih
     go false ih = ih
-
--- a switch is composed for only while it has no slip out
-vacant : (h : HubModel) (id : ℕ) (buf : List ℕ) (o : Option SwitchModel) (x : Composition × HubModel) → at_enrolled o (compose_for h id buf) ≡ Ok x → slip_in o ≡ None
-vacant h id buf None x e = absurd (err≢ok e)
-vacant h id buf (Some m) x e = go m.numbers.slip (past (is_some m.numbers.slip) _ _ x e).0
-  where
-    go : (o : Option ℕ) → is_some o ≡ false → o ≡ None
-    go None q = refl
-    go (Some n) q = absurd (true≢false q)
 
 holds_issued : (h : HubModel) (id : ℕ) (buf : List ℕ) (slips : List Slip) (c : Composition) (g : HubModel) → HoldsAll h slips → compose h id buf ≡ Ok (c, g)
     → HoldsAll g (slips ++ record { switch = id; number = c.number } ∷ [])
@@ -269,17 +166,20 @@ module _ (h : HubModel) (xs : List Slip) (i : ℕ) (x : Slip) (l : i < length xs
 
 -- A call that opens and closes no slip, by what it leaves.
 
+same_out : (h k g : HubModel) → SameSlips h k → g ≡ k → SameOut h g
+same_out h k g same e slips all = holds_as k g slips slips e refl (holds_still h k slips same all)
+
 pub same_enrol : (h g : HubModel) (id : ℕ) (list : List ℕ) → g ≡ hub_after h (enrol h id list) → SameOut h g
-same_enrol h g id list e slips all = holds_as (hub_after h (enrol h id list)) g slips slips e refl (holds_enrol h id list slips all)
+same_enrol h g id list = same_out h _ g (slips_enrol h id list)
 
 pub same_value : (h g : HubModel) (a : ℕ) (half : Half) (v : ℤ) → g ≡ hub_after h (set_value h a half v) → SameOut h g
-same_value h g a half v e slips all = holds_as (hub_after h (set_value h a half v)) g slips slips e refl (holds_value h a half v slips all)
+same_value h g a half v = same_out h _ g (slips_value h a half v)
 
 pub same_control : (h g : HubModel) (id word : ℕ) → g ≡ hub_after h (set_control h id word) → SameOut h g
-same_control h g id word e slips all = holds_as (hub_after h (set_control h id word)) g slips slips e refl (holds_control h id word slips all)
+same_control h g id word = same_out h _ g (slips_control h id word)
 
 pub same_take : (h g : HubModel) (payload : List ℕ) → g ≡ hub_after h (take_payload h payload) → SameOut h g
-same_take h g payload e slips all = holds_as (hub_after h (take_payload h payload)) g slips slips e refl (holds_take h payload slips all)
+same_take h g payload = same_out h _ g (slips_take h payload)
 
 -- a hub that was opened has no slip out
 pub holds_opened : {S : Type 0} (store : S) (site : Site) (known : Known) (h : HubModel) → Ok h ≡ handed_back store (opened site known) → HoldsAll h []

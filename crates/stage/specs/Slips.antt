@@ -2,18 +2,11 @@
 use Rattle.std.specs.Prelude.{◌≡◌, ℕ, suc, Bool, cond, ◌&&◌, List, [], ◌∷◌, Some, None, Option, ◌==◌}
 use Rattle.std.specs.Option.{option_map, option_to_list}
 use Rattle.model.specs.Composing as composing
-use Rattle.model.specs.Models.{HubModel, Step, SwitchModel, find_switch, hub_after}
+use Rattle.model.specs.Models.{HubModel, Step, hub_after}
 use Rattle.hub.specs.declared.slip.Slip.{Slip}
+use Rattle.hub.specs.Slips.{slip_out}
 use Rattle.stage.specs.declared.slips.Fate.{Fate}
 use Rattle.stage.specs.declared.slips.Fate.TheVariants.{Sent, Withheld}
-
--- the number of the slip that a switch has out
-abbrev pub slip_in : Option SwitchModel → Option ℕ
-slip_in None = None
-slip_in (Some m) = m.numbers.slip
-
-abbrev pub slip_out : HubModel → ℕ → Option ℕ
-slip_out h s = slip_in (find_switch s h.switches)
 
 -- the numbers of the slips for one switch, in order
 unfoldable pub numbers_for : ℕ → List Slip → List ℕ
