@@ -1,11 +1,17 @@
 // Settings and questions.
 use crate::house::*;
-use model::Mark;
+use crate::sending::send;
+use model::{Arrival, Mark};
 use std::test::Fail;
 
 #[test]
 fn control_words(rt: HostRuntime) -> Result<(), Fail> {
     let mut hub = house()?;
+    let mut packet = [0; 48];
+    send(&mut hub, 7, &mut packet)?;
+    assert_eq!(rt; told(&mut hub, &packet), Ok((Arrival::Answer, 5)));
+    assert_eq!(rt; hub.control_mark(7), Ok(Mark::Settled));
+    // the same word again is due all the same
     hub.set_control(7, 0x130)?;
     assert_eq!(rt; hub.control_mark(7), Ok(Mark::Due));
     // bit 8 must be set, and bit 6 must not

@@ -1,5 +1,6 @@
 // Payloads of switches, and what the hub makes of them.
 use crate::house::*;
+use crate::sending::send;
 use model::{Arrival, KeyPress, Mark};
 use std::test::Fail;
 
@@ -39,9 +40,14 @@ fn telling(rt: HostRuntime) -> Result<(), Fail> {
     Ok(())
 }
 
+// A switch that has been told everything asks for it again.
 #[test]
 fn init_request(rt: HostRuntime) -> Result<(), Fail> {
     let mut hub = house()?;
+    let mut packet = [0; 48];
+    send(&mut hub, 8, &mut packet)?;
+    assert_eq!(rt; told(&mut hub, &packet), Ok((Arrival::Answer, 5)));
+    assert!(rt; !hub.has_outstanding(8)?);
     assert_eq!(rt;
         behind(&mut hub, 0, &[0x08, 0x01, 0, 0, 0x40, 0, 0, 0]),
         Ok((Arrival::Event, 1))
