@@ -5,6 +5,7 @@ ghost use Rattle.model.specs.Opening.{enrol as enrol_step, enrol_fault, entry_fa
 ghost use Rattle.store.specs.Lists.{lists};
 ghost use Rattle.arrayvec.specs.ArrayVec.{array_vec_len};
 ghost use Rattle.hub.specs.Memory.{hub_model};
+ghost use Rattle.switch.specs.Items.{repeats};
 
 use crate::memory::Hub;
 use fault::{CallFault, Fault, StoreFault};
@@ -15,6 +16,7 @@ use switch::{MOST_ACTORS, Switch};
 fn check_entries<S: ActorStore>(store: &S, actors: &[u16]) -> Result<(), Fault>
     ensures answer { result ≡ unless (entry_fault (S.meaning store.now) [] 0 actors.now) tt }
     ensures named { OnOk result (lists actors.now 0 ≡ false) }
+    ensures distinct { OnOk result (repeats actors.now ≡ false) }
 {
     // by index, since the refusal tells it
     for (i, &actor) in actors.iter().enumerate() {
@@ -35,6 +37,7 @@ impl<S: ActorStore> Hub<S> {
         ensures room { OnOk result (array_vec_len self.now.switches < 32) }
         ensures few { OnOk result (length actors.now ≤ 64) }
         ensures named { OnOk result (lists actors.now 0 ≡ false) }
+        ensures distinct { OnOk result (repeats actors.now ≡ false) }
     {
         if id == 0 || self.find(id).is_some() {
             return Err(Fault::Call(CallFault::SwitchTaken, 0));

@@ -1,3 +1,5 @@
 pub mod Searches
 pub mod Changes
-pub mod Named
+pub mod Lawful
+pub mod Firsts
+pub mod Touches

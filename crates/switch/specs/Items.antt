@@ -1,7 +1,21 @@
--- The items of a switch: every one names an actor.
-use Rattle.std.specs.Prelude.{Bool, true, not, ◌&&◌, List, [], ◌∷◌, ◌==◌}
+-- The items of a switch: every one names an actor, and no two the same one.
+use Rattle.std.specs.Prelude.{◌≡◌, ℕ, Bool, true, false, not, ◌&&◌, ◌||◌, List, [], ◌∷◌, map, ◌==◌}
+use Rattle.store.specs.Lists.{lists}
 use Rattle.model.specs.declared.item.Item.{Item}
 
 abbrev pub all_named : List Item → Bool
 all_named [] = true
 all_named (x ∷ xs) = not (x.actor == 0) && all_named xs
+
+abbrev pub actors_of : List Item → List ℕ
+actors_of items = map (λ x. x.actor) items
+
+-- an entry stands in the list again behind its first place
+abbrev pub repeats : List ℕ → Bool
+repeats [] = false
+repeats (x ∷ xs) = lists xs x || repeats xs
+
+-- what is true of the items of every switch
+pub record LawfulItems (items : List Item) : Type 0 where
+  pub named : all_named items ≡ true
+  pub distinct : repeats (actors_of items) ≡ false

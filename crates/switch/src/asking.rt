@@ -4,7 +4,7 @@ ghost use Rattle.model.specs.Composing.{has_outstanding, outstanding_actors};
 ghost use Rattle.model.specs.Models.{lists_actor, mark_of_actor};
 ghost use Rattle.model.specs.Opening.{new_switch};
 ghost use Rattle.store.specs.Lists.{lists};
-ghost use Rattle.switch.specs.Items.{all_named};
+ghost use Rattle.switch.specs.Items.{all_named, repeats};
 
 use crate::items;
 use crate::memory::{MOST_ACTORS, Switch};
@@ -21,10 +21,23 @@ pub fn stands_in(list: &[u16], actor: u16) -> bool
     list.contains(&actor)
 }
 
+// Whether an entry stands in a list again behind its first place.
+fn has_repeats(list: &[u16]) -> bool
+    ensures { result ≡ repeats list.now }
+{
+    for (i, &actor) in list.iter().enumerate() {
+        if stands_in(&list[i + 1..], actor) {
+            return true;
+        }
+    }
+    false
+}
+
 // A switch as it is enrolled, with every item due.
 fn enrolled(id: u16, actors: &[u16]) -> Switch
     requires few { length actors.now ≤ 64 }
     requires named { lists actors.now 0 ≡ false }
+    requires distinct { repeats actors.now ≡ false }
     ensures { result ≡ new_switch id actors.now }
 {
     let mut items = ArrayVec::new();
@@ -69,11 +82,11 @@ impl Switch {
         enrolled(0, &[])
     }
 
-    // A switch with this list, if it has room for it and every entry names an actor.
+    // A switch with this list, if it has room for it and every entry names an actor of its own.
     pub fn new(id: u16, actors: &[u16]) -> Option<Switch>
-        ensures { result ≡ (if nat_lt 64 (length actors.now) || lists actors.now 0 then None else Some (new_switch id actors.now)) }
+        ensures { result ≡ (if nat_lt 64 (length actors.now) || lists actors.now 0 || repeats actors.now then None else Some (new_switch id actors.now)) }
     {
-        if actors.len() > MOST_ACTORS || stands_in(actors, 0) {
+        if actors.len() > MOST_ACTORS || stands_in(actors, 0) || has_repeats(actors) {
             return None;
         }
         Some(enrolled(id, actors))

@@ -16,15 +16,14 @@ pub struct Switch {
     pub(crate) report: Report,
 }
 
-// Every item names an actor.
+// Every item names an actor, and no two the same one.
 impl Model for Switch {
-    ghost use Rattle.std.specs.Prelude.{◌≡◌, true};
     ghost use Rattle.model.specs.Models.{SwitchModel};
-    ghost use Rattle.switch.specs.Items.{all_named};
+    ghost use Rattle.switch.specs.Items.{LawfulItems};
 
     ghost Value = { SwitchModel };
 
     ghost view = { λ s. record { id = s.id; items = s.items.items; control = s.control; mark = s.mark; numbers = s.numbers; report = s.report } };
 
-    ghost invariant = { λ s. all_named s.items.items ≡ true };
+    ghost invariant = { λ s. LawfulItems s.items.items };
 }
