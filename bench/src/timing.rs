@@ -91,6 +91,14 @@ impl Case {
         self.measured * self.full.times
     }
 
+    /// The same calls on a hub over an image, which knows the same 64 actors.
+    fn over_an_image(mut self) -> Self {
+        for script in [&mut self.full, &mut self.base] {
+            script.source = Source::Image(block());
+        }
+        self
+    }
+
     fn expecting(self, x: u16, y: u16) -> Self {
         Self { expected: Some([x, y]), ..self }
     }
@@ -142,6 +150,10 @@ fn cases() -> Vec<Case> {
             .expecting(0, ACTORS),
         answers("take the awaited answer to a full refresh").expecting(1, 2 * ACTORS + 1),
         Case::new("compose a full refresh, sent", 1).repeating(compose(1)).expecting(FULL_REFRESH, ACTORS),
+        Case::new("compose a full refresh over an image, sent", 1)
+            .over_an_image()
+            .repeating(compose(1))
+            .expecting(FULL_REFRESH, ACTORS),
         Case::new("compose refused at once, same buffer", 1).repeating(compose(2)),
         Case::new("set_target, first of 64 actors, 32 switches", SWITCHES).repeating(set_target(1)).expecting(0, 0),
         Case::new("set_target, middle of 64 actors, 32 switches", SWITCHES)
@@ -197,6 +209,18 @@ fn payload(number: u16, messages: Vec<u8>) -> Vec<u8> {
     let length = 16 + messages.len() as u16;
     let words = [0x8601, length, 0x0201, number, 0x1234, 0, 1, 0];
     words.into_iter().flat_map(u16::to_le_bytes).chain(messages).collect()
+}
+
+/// A block of 16 pages, all values 0.
+fn block() -> Vec<u8> {
+    const PAGES: u8 = 16;
+    const PAGES_AT: usize = 25;
+    let mut block = vec![0; 128 + 28 * usize::from(PAGES)];
+    let length = block.len() as u16;
+    block[0..2].copy_from_slice(&0x7501_u16.to_le_bytes());
+    block[2..4].copy_from_slice(&length.to_le_bytes());
+    block[PAGES_AT] = PAGES;
+    block
 }
 
 // Measuring.
