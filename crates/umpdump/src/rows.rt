@@ -39,7 +39,10 @@ struct Value(Record);
 impl fmt::Display for Value {
     fn fmt<W: fmt::Write>(&self, f: &mut fmt::Formatter<W>) -> fmt::Result {
         match self.0 {
-            Record::State(flags) if kind::asks_init(flags) => write!(f, "flags {flags:08X}  InitRequest"),
+            Record::State(flags) if kind::asks_init(flags) => write!(
+                f,
+                "flags {flags:08X}  InitRequest"
+            ),
             Record::State(flags) => write!(f, "flags {flags:08X}"),
             Record::Control(flags) => write!(f, "flags {flags:08X}"),
             Record::EditValue { target, .. } => write!(f, "target {target}"),
