@@ -12,6 +12,8 @@ use crate::random::Random;
 use crate::script::{Call, Operation};
 use author::Author;
 
+pub use stores::blank_image;
+
 /// What a hub is opened over.
 #[derive(Clone, Debug)]
 pub enum Source {

@@ -10,7 +10,7 @@ use std::time::{Duration, Instant};
 
 use crate::outcome::{OUTCOME, Outcome};
 use crate::script::{Call, Calls, Operation};
-use crate::scripts::{Script, Source};
+use crate::scripts::{Script, Source, blank_image};
 use crate::side::{PLAIN, PROVED, Side};
 
 /// The best of so many repetitions counts.
@@ -29,6 +29,8 @@ const ACTORS: u16 = 64;
 const MIDDLE: u16 = 32;
 const SWITCHES: u16 = 32;
 const FULL_REFRESH: u16 = 792;
+/// An image of so many pages knows the actors 1 to 64.
+const PAGES: usize = 16;
 
 /// Two scripts to be timed.
 struct Case {
@@ -94,7 +96,7 @@ impl Case {
     /// The same calls on a hub over an image, which knows the same 64 actors.
     fn over_an_image(mut self) -> Self {
         for script in [&mut self.full, &mut self.base] {
-            script.source = Source::Image(block());
+            script.source = Source::Image(blank_image(PAGES));
         }
         self
     }
@@ -209,18 +211,6 @@ fn payload(number: u16, messages: Vec<u8>) -> Vec<u8> {
     let length = 16 + messages.len() as u16;
     let words = [0x8601, length, 0x0201, number, 0x1234, 0, 1, 0];
     words.into_iter().flat_map(u16::to_le_bytes).chain(messages).collect()
-}
-
-/// A block of 16 pages, all values 0.
-fn block() -> Vec<u8> {
-    const PAGES: u8 = 16;
-    const PAGES_AT: usize = 25;
-    let mut block = vec![0; 128 + 28 * usize::from(PAGES)];
-    let length = block.len() as u16;
-    block[0..2].copy_from_slice(&0x7501_u16.to_le_bytes());
-    block[2..4].copy_from_slice(&length.to_le_bytes());
-    block[PAGES_AT] = PAGES;
-    block
 }
 
 // Measuring.

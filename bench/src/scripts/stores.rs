@@ -93,12 +93,24 @@ fn image(random: &mut Random) -> Vec<u8> {
     block
 }
 
+/// A lawful block of so many pages, all values 0.
+pub fn blank_image(pages: usize) -> Vec<u8> {
+    let mut block = vec![0; HEAD + PAGE * pages];
+    put_head(&mut block, pages);
+    block
+}
+
+fn put_head(block: &mut [u8], pages: usize) {
+    let length = block.len() as u16;
+    put_word(block, 0, 0x7501);
+    put_word(block, 2, length);
+    block[25] = pages as u8;
+}
+
 fn lawful_image(random: &mut Random, pages: usize) -> Vec<u8> {
     let length = HEAD + PAGE * pages;
     let mut block = random.bytes(length);
-    put_word(&mut block, 0, 0x7501);
-    put_word(&mut block, 2, length as u16);
-    block[25] = pages as u8;
+    put_head(&mut block, pages);
     for place in 0..8 * pages {
         let any = random.word().cast_signed().clamp(-32_767, 32_766);
         let value = random.pick(&[0, 1, -1, -32_767, 32_766, any, any, any]);
