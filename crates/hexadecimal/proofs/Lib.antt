@@ -1,5 +1,4 @@
 pub mod Fronts
-pub mod Places
 pub mod Pairs
 pub mod Table
 pub mod Spelling

@@ -4,5 +4,4 @@ pub mod Written
 pub mod Compositions
 pub mod Owed
 pub mod Kept
-pub mod Refused
 pub mod Changes

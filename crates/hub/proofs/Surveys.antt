@@ -1,5 +1,5 @@
 -- The checking pass, one message after another.
-use Rattle.std.proofs.Common.{◌≡◌, ℕ, ◌+◌, ◌≤◌, Bool, true, false, cond, List, [], is_ok, Some, None, Ok, Err, Option, Result, refl, ap, ap₂, arith}
+use Rattle.std.proofs.Common.{◌≡◌, ℕ, ◌+◌, ◌≤◌, Bool, true, false, cond, List, [], is_ok, Some, None, Ok, Err, Option, Result, refl, ap₂, arith}
 use Rattle.std.proofs.lemmas.Bool.{false≢true}
 use Rattle.std.specs.Option.{option_or}
 use Rattle.fault.specs.declared.Fault.{Fault}
@@ -17,15 +17,8 @@ abbrev pub onto : Survey → Result Survey Fault → Result Survey Fault
 onto s (Ok t) = Ok (record { understood = s.understood + t.understood; unlisted = option_or s.unlisted t.unlisted })
 onto s (Err e) = Err e
 
-abbrev pub nothing_seen : Survey
-nothing_seen = record { understood = 0; unlisted = None }
-
 abbrev survey : ℕ → Option ℕ → Survey
 survey n u = record { understood = n; unlisted = u }
-
-pub onto_nothing : (r : Result Survey Fault) → onto nothing_seen r ≡ r
-onto_nothing (Ok t) = ap (λ (n : ℕ). Ok (survey n t.unlisted)) (omega arith)
-onto_nothing (Err e) = refl
 
 pub onto_end : (items : List Item) (s : Survey) → onto s (survey_of items (Ok [])) ≡ Ok s
 unfolding first_unlisted

@@ -1,5 +1,5 @@
 -- Taking a payload from a switch.
-use Rattle.std.specs.Prelude.{ℕ, ◌/◌, ◌%◌, Bool, true, cond, not, List, [], ◌∷◌, ℤ, Some, None, Ok, Err, codes, Option, Result, ◌==◌}
+use Rattle.std.specs.Prelude.{ℕ, Bool, true, cond, not, List, [], ◌∷◌, ℤ, Some, None, Ok, Err, codes, Option, Result, ◌==◌}
 use Rattle.fault.specs.declared.ActorFault.TheVariants.{NotListed}
 use Rattle.fault.specs.declared.Fault.{Fault}
 use Rattle.fault.specs.declared.Fault.TheVariants as fault

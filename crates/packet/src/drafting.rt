@@ -61,17 +61,6 @@ fn write_at<K: Kind>(buf: &mut [u8], at: usize, actor: u16, record: K::Record)
     let _ = kind::write::<K>(&mut buf[at..], actor, record).unwrap();
 }
 
-// Fills in the FrameLength of a draft of so many bytes behind the descriptor.
-fn fill_length(buf: &mut [u8], behind: usize)
-    requires room { 16 + behind ≤ length buf.old }
-    requires most { 16 + behind ≤ 1472 }
-    ensures bytes { buf.new ≡ over buf.old 2 (word_bytes (16 + behind)) }
-    ensures back { ReadsBack (record { behind = behind }) buf.old (take (16 + behind) buf.new) }
-{
-    let length = (DESCRIPTOR_LEN + behind) as u16;
-    buf[2..4].copy_from_slice(&length.to_le_bytes());
-}
-
 impl Draft {
     // Whether the packet or the buffer has no room for so many bytes more.
     fn is_full(&self, more: u8, buf: &[u8]) -> bool
@@ -136,6 +125,17 @@ impl Draft {
         }
     }
 
+    // Fills in the FrameLength.
+    fn fill_length(&self, buf: &mut [u8])
+        requires room { 16 + self.now.behind ≤ length buf.old }
+        requires most { 16 + self.now.behind ≤ 1472 }
+        ensures bytes { buf.new ≡ over buf.old 2 (word_bytes (16 + self.now.behind)) }
+        ensures back { ReadsBack self.now buf.old (take (16 + self.now.behind) buf.new) }
+    {
+        let length = (DESCRIPTOR_LEN + self.behind) as u16;
+        buf[2..4].copy_from_slice(&length.to_le_bytes());
+    }
+
     // Closes the packet, which fills in its FrameLength. A refusal gives the draft back, and nothing is written.
     pub fn close(self, buf: &mut [u8]) -> Result<Closed, (Fault, Draft)>
         ensures answer { result ≡ closed self buf.old }
@@ -145,7 +145,7 @@ impl Draft {
         if self.is_full(0, buf) {
             return Err((Fault::Call(CallFault::ShortBuffer, 0), self));
         }
-        fill_length(buf, self.behind);
+        self.fill_length(buf);
         Ok(Closed {
             length: DESCRIPTOR_LEN + self.behind,
         })

@@ -16,7 +16,7 @@ pub struct Packet {
 }
 
 // How many messages are understood, of `rest` and of the messages before it, if all of `rest` reads. `rest` is what is left of a payload, from `place` on:
-// what follows its first message is handed on, from the next one's first byte. The count goes along, so that no call waits for another.
+// what follows its first message is handed on, from the next one's first byte. The calls go as deep as there are messages, 364 at most; the hub reads by a `Cursor`.
 fn count_understood(rest: &[u8], place: usize, before: usize) -> Result<usize, Fault>
     requires place { place + length rest.now < 2 ^ 63 }
     requires before { before + length rest.now < 2 ^ 63 }

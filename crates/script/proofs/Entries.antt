@@ -51,10 +51,6 @@ pub entry_more : (kept : List ℕ) (n : ℕ) (o : Option (List ℕ)) → kept_wi
 entry_more kept n None = refl
 entry_more kept n (Some ns) = ap Some (take_twice 257 (kept ++ n ∷ []) ns ∙ ap (take 257) (append_assoc kept (n ∷ []) ns))
 
--- an entry that is no number
-pub entry_bad : (kept : List ℕ) (o : Option (List ℕ)) → kept_with kept (before None o) ≡ None
-entry_bad kept o = refl
-
 -- the last entry
 pub entry_last : (kept : List ℕ) (n : ℕ) → Some (take 257 (kept ++ n ∷ [])) ≡ kept_with kept (before (Some n) (numbers_in []))
 unfolding numbers_in

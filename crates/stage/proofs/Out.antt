@@ -5,7 +5,6 @@ use Rattle.std.proofs.lemmas.List.{take-append-drop}
 use Rattle.std.proofs.lemmas.Bool.{eq-eqb}
 use Rattle.std.proofs.lemmas.Option.{none-some}
 use Rattle.fault.specs.declared.CallFault.TheVariants.{NoSlip}
-use Rattle.fault.specs.declared.Fault.{Fault}
 use Rattle.fault.specs.declared.Fault.TheVariants as fault
 use Rattle.fault.specs.declared.FrameFault.TheVariants.{MajorVersion}
 use Rattle.packet.proofs.Spelling.{same_answer}
@@ -76,14 +75,6 @@ holds_compose h id buf slips told after all answer now = go (compose h id buf) r
         ap (λ (t : Composed). numbers_for s (slips ++ t.slip ∷ [])) (same_answer _ _ p)
         ∙ holds_issued h id buf slips x.0 x.1 all q s
         ∙ ap (λ (k : HubModel). option_to_list (slip_out k s)) (sym n)
-
-pub holds_refused : (h : HubModel) (id : ℕ) (buf : List ℕ) (slips : List Slip) (after : HubModel) (e : Fault) → HoldsAll h slips
-    → Err e ≡ composition id (compose h id buf) → after ≡ hub_after h (compose h id buf) → HoldsAll after slips
-holds_refused h id buf slips after e all answer now = go (compose h id buf) answer now
-  where
-    go : (r : Step Composition) → Err e ≡ composition id r → after ≡ hub_after h r → HoldsAll after slips
-    go (Ok x) p n = absurd (err≢ok p)
-    go (Err f) p n = holds_still h after slips (λ s. ap (λ (k : HubModel). slip_out k s) n) all
 
 -- Handing in one of the slips at hand: the hub takes it, and has the others out.
 

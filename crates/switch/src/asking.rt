@@ -65,23 +65,16 @@ fn enrolled(id: u16, actors: &[u16]) -> Switch
     }
 }
 
-// By hand: a derived one would have control word 0 and nothing due.
+// A switch that lists nothing, for the room that no switch has taken yet. By hand: a derived one would have control word 0 and nothing due.
 impl Default for Switch {
     ghost is_default = { λ s. s ≡ new_switch 0 [] };
 
     fn default() -> Switch {
-        Switch::blank()
+        enrolled(0, &[])
     }
 }
 
 impl Switch {
-    // A switch that lists nothing, for the room that no switch has taken yet.
-    pub fn blank() -> Switch
-        ensures { result ≡ new_switch 0 [] }
-    {
-        enrolled(0, &[])
-    }
-
     // A switch with this list, if it has room for it and every entry names an actor of its own.
     pub fn new(id: u16, actors: &[u16]) -> Option<Switch>
         ensures { result ≡ (if nat_lt 64 (length actors.now) || lists actors.now 0 || repeats actors.now then None else Some (new_switch id actors.now)) }

@@ -15,9 +15,13 @@ fn control_words(rt: HostRuntime) -> Result<(), Fail> {
     hub.set_control(7, 0x130)?;
     assert_eq!(rt; hub.control_mark(7), Ok(Mark::Due));
     // bit 8 must be set, and bit 6 must not
-    assert_eq!(rt; refused(hub.set_control(7, 0x30)), Some((13, 0)));
-    assert_eq!(rt; refused(hub.set_control(7, 0x170)), Some((13, 0)));
-    assert_eq!(rt; refused(hub.set_control(9, 0x30)), Some((6, 0)));
+    for (id, word, refusal) in [(7, 0x30, (13, 0)), (7, 0x170, (13, 0)), (9, 0x30, (6, 0))] {
+        assert_eq!(rt;
+            refused(hub.set_control(id, word)),
+            Some(refusal),
+            "word {word}"
+        );
+    }
     Ok(())
 }
 
@@ -37,11 +41,14 @@ fn questions(rt: HostRuntime) -> Result<(), Fail> {
     let hub = house()?;
     assert_eq!(rt; hub.actor_mark(7, 1), Ok(Mark::Due));
     assert_eq!(rt; refused(hub.actor_mark(7, 3)), Some((10, 0)));
-    assert_eq!(rt; refused(hub.actor_mark(9, 1)), Some((6, 0)));
-    assert_eq!(rt; refused(hub.control_mark(9)), Some((6, 0)));
-    assert_eq!(rt; refused(hub.flags(9)), Some((6, 0)));
-    assert_eq!(rt; refused(hub.latest_key(9)), Some((6, 0)));
-    assert_eq!(rt; refused(hub.reading(9)), Some((6, 0)));
-    assert_eq!(rt; refused(hub.has_outstanding(9)), Some((6, 0)));
+    let of_a_stranger = [
+        refused(hub.actor_mark(9, 1)),
+        refused(hub.control_mark(9)),
+        refused(hub.flags(9)),
+        refused(hub.latest_key(9)),
+        refused(hub.reading(9)),
+        refused(hub.has_outstanding(9)),
+    ];
+    assert_eq!(rt; of_a_stranger, [Some((6, 0)); 6]);
     Ok(())
 }

@@ -18,15 +18,17 @@ fn crossing(rt: HostRuntime) -> Result<(), Fail> {
         &packet[22..28],
         [0x06_u8, 0x42, 0x01, 0x00, 0xDC, 0x00].as_slice()
     );
-    assert_eq!(rt; hub.actor_mark(7, 1), Ok(Mark::UnderWay));
-    assert_eq!(rt; hub.actor_mark(7, 2), Ok(Mark::UnderWay));
-    assert_eq!(rt; hub.control_mark(7), Ok(Mark::UnderWay));
+    assert_eq!(rt; marks(&hub, 7, (1, 2)), [Ok(Mark::UnderWay); 3]);
     hub.set_target(1, 230)?;
-    assert_eq!(rt; hub.actor_mark(7, 1), Ok(Mark::Due));
+    assert_eq!(rt;
+        marks(&hub, 7, (1, 2)),
+        [Ok(Mark::Due), Ok(Mark::UnderWay), Ok(Mark::UnderWay)]
+    );
     assert_eq!(rt; told(&mut hub, &packet), Ok((Arrival::Answer, 5)));
-    assert_eq!(rt; hub.actor_mark(7, 1), Ok(Mark::Due));
-    assert_eq!(rt; hub.actor_mark(7, 2), Ok(Mark::Settled));
-    assert_eq!(rt; hub.control_mark(7), Ok(Mark::Settled));
+    assert_eq!(rt;
+        marks(&hub, 7, (1, 2)),
+        [Ok(Mark::Due), Ok(Mark::Settled), Ok(Mark::Settled)]
+    );
     let mut next = [0xFF; 30];
     assert_eq!(rt; send(&mut hub, 7, &mut next)?, (28, 1, 2));
     assert_eq!(rt;

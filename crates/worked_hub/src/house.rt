@@ -3,7 +3,7 @@ ghost use Rattle.std.specs.Prelude.{◌≡◌, ◌+◌, ◌<◌, ◌≤◌, leng
 
 use fault::Fault;
 use hub::Hub;
-use model::{Arrival, Site};
+use model::{Arrival, Mark, Site};
 use store::table::Table;
 
 pub(crate) const SITE: Site = Site {
@@ -27,12 +27,21 @@ pub(crate) fn house() -> Result<Hub<Table>, Fault> {
 }
 
 // Number and place of a refusal, as documents and logs know it: two lines, for which the crates of tests need no crate of their own.
-fn numbered(fault: Fault) -> (u8, usize) {
+pub(crate) fn numbered(fault: Fault) -> (u8, usize) {
     (fault.number(), fault.place())
 }
 
 pub(crate) fn refused<T: Drop>(answer: Result<T, Fault>) -> Option<(u8, usize)> {
     answer.err().map(numbered)
+}
+
+// How a switch's items stand: those of two actors, and its control word.
+pub(crate) fn marks(hub: &Hub<Table>, id: u16, actors: (u16, u16)) -> [Result<Mark, Fault>; 3] {
+    [
+        hub.actor_mark(id, actors.0),
+        hub.actor_mark(id, actors.1),
+        hub.control_mark(id),
+    ]
 }
 
 // A descriptor of switch 8 in an event, which says 16 bytes. What follows is the like of crate worked's, with a hub and a package number.

@@ -2,6 +2,7 @@
 use crate::house::*;
 use hub::Hub;
 use model::Site;
+use std::process::Abort;
 use std::test::Fail;
 use store::meaning::{ActorStore, Half};
 use store::table::Table;
@@ -17,29 +18,43 @@ fn other_major_version(rt: HostRuntime) -> Result<(), Fail> {
     let Err((fault, table)) = Hub::open(table, site) else {
         return Err(Fail::new("a hub of another major version was opened"));
     };
-    assert_eq!(rt; fault.number(), 4);
-    assert_eq!(rt; fault.place(), 0);
+    assert_eq!(rt; numbered(fault), (4, 0));
     assert_eq!(rt; table.read(1)?, (5, 0));
     Ok(())
+}
+
+// Each of these enrolments is refused, with number and place.
+fn all_refused(rt: &impl Abort, hub: &mut Hub<Table>, enrolments: &[(u16, &[u16], (u8, usize))]) {
+    for &(id, actors, refusal) in enrolments {
+        assert_eq!(rt;
+            refused(hub.enrol(id, actors)),
+            Some(refusal),
+            "switch {id}"
+        );
+    }
 }
 
 #[test]
 fn enrolments(rt: HostRuntime) -> Result<(), Fail> {
     let mut hub = house()?;
-    assert_eq!(rt; refused(hub.enrol(0, &[1])), Some((14, 0)));
-    assert_eq!(rt; refused(hub.enrol(7, &[])), Some((14, 0)));
-    assert_eq!(rt; refused(hub.enrol(9, &[])), Some((16, 0)));
-    assert_eq!(rt; refused(hub.enrol(9, &[1; 65])), Some((16, 0)));
-    assert_eq!(rt; refused(hub.enrol(9, &[3, 1, 3])), Some((17, 2)));
-    assert_eq!(rt; refused(hub.enrol(9, &[3, 0])), Some((17, 1)));
-    assert_eq!(rt; refused(hub.enrol(9, &[3, 5, 3])), Some((11, 1)));
+    all_refused(
+        &rt,
+        &mut hub,
+        &[
+            (0, &[1], (14, 0)),
+            (7, &[], (14, 0)),
+            (9, &[], (16, 0)),
+            (10, &[1; 65], (16, 0)),
+            (11, &[3, 1, 3], (17, 2)),
+            (12, &[3, 0], (17, 1)),
+            (13, &[3, 5, 3], (11, 1)),
+        ],
+    );
     assert_eq!(rt; refused(hub.flags(9)), Some((6, 0)));
     for id in 100..130u16 {
         hub.enrol(id, &[1])?;
     }
-
     // the room is looked at before the list, and the ID before the room
-    assert_eq!(rt; refused(hub.enrol(130, &[])), Some((15, 0)));
-    assert_eq!(rt; refused(hub.enrol(129, &[])), Some((14, 0)));
+    all_refused(&rt, &mut hub, &[(130, &[], (15, 0)), (129, &[], (14, 0))]);
     Ok(())
 }

@@ -1,8 +1,12 @@
 // Payloads of switches, and what the hub makes of them.
 use crate::house::*;
 use crate::sending::send;
+use fault::Fault;
+use hub::Hub;
 use model::{Arrival, KeyPress, Mark};
+use std::process::Abort;
 use std::test::Fail;
+use store::table::Table;
 
 // An event of switch 8: EditValue, actor 2, target 215.
 const EDIT: [u8; 22] = [
@@ -14,16 +18,22 @@ const EDIT: [u8; 22] = [
 fn edit_value(rt: HostRuntime) -> Result<(), Fail> {
     let mut hub = house()?;
     assert_eq!(rt; told(&mut hub, &EDIT), Ok((Arrival::Event, 1)));
-    assert_eq!(rt; hub.actor_mark(7, 2), Ok(Mark::Due));
-    assert_eq!(rt; hub.actor_mark(8, 2), Ok(Mark::Due));
+    assert_eq!(rt; marks(&hub, 7, (1, 2)), [Ok(Mark::Due); 3]);
+    assert_eq!(rt; marks(&hub, 8, (2, 3)), [Ok(Mark::Due); 3]);
     Ok(())
+}
+
+// What a switch has told of its keys and of its sensor.
+type Told = (Result<Option<KeyPress>, Fault>, Result<Option<i16>, Fault>);
+
+fn told_of(hub: &Hub<Table>, id: u16) -> Told {
+    (hub.latest_key(id), hub.reading(id))
 }
 
 #[test]
 fn telling(rt: HostRuntime) -> Result<(), Fail> {
     let mut hub = house()?;
-    assert_eq!(rt; hub.latest_key(8)?, None);
-    assert_eq!(rt; hub.reading(8)?, None);
+    assert_eq!(rt; told_of(&hub, 8), (Ok(None), Ok(None)));
     assert_eq!(rt;
         behind(
             &mut hub,
@@ -32,11 +42,10 @@ fn telling(rt: HostRuntime) -> Result<(), Fail> {
         ),
         Ok((Arrival::Event, 2))
     );
-    assert_eq!(rt; hub.latest_key(8)?, Some(KeyPress { actor: 2, key: 3 }));
-    assert_eq!(rt; hub.reading(8)?, Some(215));
+    let key = KeyPress { actor: 2, key: 3 };
+    assert_eq!(rt; told_of(&hub, 8), (Ok(Some(key)), Ok(Some(215))));
     // what switch 8 told is not told of switch 7
-    assert_eq!(rt; hub.latest_key(7)?, None);
-    assert_eq!(rt; hub.reading(7)?, None);
+    assert_eq!(rt; told_of(&hub, 7), (Ok(None), Ok(None)));
     Ok(())
 }
 
@@ -52,103 +61,111 @@ fn init_request(rt: HostRuntime) -> Result<(), Fail> {
         behind(&mut hub, 0, &[0x08, 0x01, 0, 0, 0x40, 0, 0, 0]),
         Ok((Arrival::Event, 1))
     );
-    assert_eq!(rt; hub.flags(8)?, 0x40);
-    assert_eq!(rt; hub.flags(7)?, 0);
-    assert_eq!(rt; hub.actor_mark(8, 2), Ok(Mark::Due));
-    assert_eq!(rt; hub.actor_mark(8, 3), Ok(Mark::Due));
-    assert_eq!(rt; hub.control_mark(8), Ok(Mark::Due));
+    assert_eq!(rt; [hub.flags(8), hub.flags(7)], [Ok(0x40), Ok(0)]);
+    assert_eq!(rt; marks(&hub, 8, (2, 3)), [Ok(Mark::Due); 3]);
     assert!(rt; hub.has_outstanding(8)?);
     Ok(())
 }
 
-// A forbidden target counts as understood, a message of no known kind does not.
+// Messages of switch 8 with a package number, and what is told of them.
+type Case<'a> = (u16, &'a [u8], Result<(Arrival, usize), (u8, usize)>);
+
+// Each is told as it should be, one after another. At most 48 bytes of messages fit.
+fn all_told(rt: &impl Abort, hub: &mut Hub<Table>, cases: &[Case<'_>]) {
+    for &(number, messages, answer) in cases {
+        assert!(rt; messages.len() <= 48);
+        assert_eq!(rt; behind(hub, number, messages), answer, "{messages:?}");
+    }
+}
+
 #[test]
 fn counts(rt: HostRuntime) -> Result<(), Fail> {
     let mut hub = house()?;
-    assert_eq!(rt; behind(&mut hub, 0, &[]), Ok((Arrival::Event, 0)));
-    assert_eq!(rt;
-        behind(
-            &mut hub,
-            0,
-            &[0x04, 0xF0, 0, 0, 0x06, 0x42, 2, 0, 0xFF, 0x7F],
-        ),
-        Ok((Arrival::Event, 1))
-    );
-    // nothing was sent to switch 8, so it owes no answer
-    assert_eq!(rt;
-        behind(&mut hub, 1, &[0x06, 0x42, 2, 0, 0xD7, 0]),
-        Ok((Arrival::Stale, 1))
-    );
-    // an answer may repeat what is not listed
-    assert_eq!(rt;
-        behind(&mut hub, 1, &[0x06, 0x42, 1, 0, 0xD7, 0]),
-        Ok((Arrival::Stale, 1))
+    all_told(
+        &rt,
+        &mut hub,
+        &[
+            (0, &[], Ok((Arrival::Event, 0))),
+            // a message of no known kind does not count; a forbidden target does
+            (
+                0,
+                &[0x04, 0xF0, 0, 0, 0x06, 0x42, 2, 0, 0xFF, 0x7F],
+                Ok((Arrival::Event, 1)),
+            ),
+            // nothing was sent to switch 8, so it owes no answer
+            (1, &[0x06, 0x42, 2, 0, 0xD7, 0], Ok((Arrival::Stale, 1))),
+            // an answer may repeat what is not listed
+            (1, &[0x06, 0x42, 1, 0, 0xD7, 0], Ok((Arrival::Stale, 1))),
+        ],
     );
     Ok(())
 }
 
+// The event of switch 8 with other bytes at these places.
+fn changed(rt: &impl Abort, bytes: &[(usize, u8)]) -> [u8; 22] {
+    let mut payload = EDIT;
+    for &(place, byte) in bytes {
+        *payload.get_mut(place).expect(rt, "a place in the event") = byte;
+    }
+    payload
+}
+
 #[test]
-fn refused_descriptors(rt: HostRuntime) -> Result<(), Fail> {
+fn descriptors(rt: HostRuntime) -> Result<(), Fail> {
     let mut hub = house()?;
     assert_eq!(rt; told(&mut hub, &EDIT[0..15]), Err((1, 0)));
     // the length is looked at before anything in the payload
     assert_eq!(rt; told(&mut hub, &[0; 1473]), Err((1, 0)));
-    let mut id = EDIT;
-    id[1] = 0x75;
-    assert_eq!(rt; told(&mut hub, &id), Err((2, 0)));
-    let mut length = EDIT;
-    length[2] = 21;
-    assert_eq!(rt; told(&mut hub, &length), Err((3, 2)));
-    let mut major = EDIT;
-    major[5] = 0x03;
-    assert_eq!(rt; told(&mut hub, &major), Err((4, 4)));
-    // any minor version passes
-    let mut minor = EDIT;
-    minor[4] = 0xFF;
-    assert_eq!(rt; told(&mut hub, &minor), Ok((Arrival::Event, 1)));
-    // the project is looked at before the switch, and both before the messages
-    let mut project = EDIT;
-    project[9] = 0x13;
-    project[12] = 9;
-    assert_eq!(rt; told(&mut hub, &project), Err((5, 8)));
-    let mut switch = EDIT;
-    switch[12] = 9;
-    switch[16] = 0x03;
-    assert_eq!(rt; told(&mut hub, &switch), Err((6, 12)));
+    let cases: [(&[(usize, u8)], Result<(Arrival, usize), (u8, usize)>); 6] = [
+        (&[(1, 0x75)], Err((2, 0))),
+        (&[(2, 21)], Err((3, 2))),
+        (&[(5, 0x03)], Err((4, 4))),
+        // any minor version passes
+        (&[(4, 0xFF)], Ok((Arrival::Event, 1))),
+        // the project is looked at before the switch, and both before the messages
+        (&[(9, 0x13), (12, 9)], Err((5, 8))),
+        (&[(12, 9), (16, 0x03)], Err((6, 12))),
+    ];
+    for (bytes, answer) in cases {
+        assert_eq!(rt; told(&mut hub, &changed(&rt, bytes)), answer, "{bytes:?}");
+    }
     Ok(())
 }
-
-// A State with flag 1, an EditValue for actor 2, which is listed, an Event for actor 1 and an EditValue for actor 4, which are not.
-const UNLISTED: [u8; 26] = [
-    0x08, 0x01, 0, 0, 1, 0, 0, 0, 0x06, 0x42, 2, 0, 1, 0, 0x06, 0x51, 1, 0, 1, 0, 0x06, 0x42, 4, 0,
-    1, 0,
-];
 
 // Each time the first message would have acted: a State with flag 1.
 #[test]
 fn refused_messages(rt: HostRuntime) -> Result<(), Fail> {
     let mut hub = house()?;
-    assert_eq!(rt;
-        behind(&mut hub, 0, &[0x08, 0x01, 0, 0, 1, 0, 0, 0, 0x03, 0xF0, 0]),
-        Err((7, 24))
+    all_told(
+        &rt,
+        &mut hub,
+        &[
+            (
+                0,
+                &[0x08, 0x01, 0, 0, 1, 0, 0, 0, 0x03, 0xF0, 0],
+                Err((7, 24)),
+            ),
+            (
+                0,
+                &[0x08, 0x01, 0, 0, 1, 0, 0, 0, 0x04, 0x42, 2, 0],
+                Err((8, 24)),
+            ),
+            (
+                0,
+                &[0x08, 0x01, 0, 0, 1, 0, 0, 0, 0x06, 0x42, 0, 0, 1, 0],
+                Err((9, 24)),
+            ),
+            // actor 2 is listed; actors 1 and 4 are not
+            (
+                0,
+                &[
+                    0x08, 0x01, 0, 0, 1, 0, 0, 0, 0x06, 0x42, 2, 0, 1, 0, 0x06, 0x51, 1, 0, 1, 0,
+                    0x06, 0x42, 4, 0, 1, 0,
+                ],
+                Err((10, 30)),
+            ),
+        ],
     );
-    assert_eq!(rt;
-        behind(
-            &mut hub,
-            0,
-            &[0x08, 0x01, 0, 0, 1, 0, 0, 0, 0x04, 0x42, 2, 0],
-        ),
-        Err((8, 24))
-    );
-    assert_eq!(rt;
-        behind(
-            &mut hub,
-            0,
-            &[0x08, 0x01, 0, 0, 1, 0, 0, 0, 0x06, 0x42, 0, 0, 1, 0],
-        ),
-        Err((9, 24))
-    );
-    assert_eq!(rt; behind(&mut hub, 0, &UNLISTED), Err((10, 30)));
     assert_eq!(rt; hub.flags(8)?, 0);
     Ok(())
 }

@@ -13,10 +13,9 @@ mod tests {
     use store::readback::put_and_read;
     use store::table::Table;
 
-    // Number and place of a refusal. worked_hub has the like of it: a crate of their own for two lines would be no plainer.
-    fn refused<T: Drop>(answer: Result<T, Fault>) -> Option<(u8, usize)> {
-        let fault = answer.err()?;
-        Some((fault.number(), fault.place()))
+    // An answer with number and place of its refusal. worked_hub has the like of it: a crate of their own for two lines would be no plainer.
+    fn told<T>(answer: Result<T, Fault>) -> Result<T, (u8, usize)> {
+        answer.map_err(|fault| (fault.number(), fault.place()))
     }
 
     // Actors 1 to 257.
@@ -41,36 +40,69 @@ mod tests {
         bytes
     }
 
+    // What reading these actors tells, whatever the store.
+    fn reads<S: ActorStore>(
+        rt: &impl Abort,
+        store: &S,
+        wanted: &[(u16, Result<(i16, i16), (u8, usize)>)],
+    ) {
+        for &(actor, answer) in wanted {
+            assert_eq!(rt; told(store.read(actor)), answer, "actor {actor}");
+        }
+    }
+
     #[test]
     fn lists_of_a_table(rt: HostRuntime) -> Result<(), Fail> {
         let list = numbered();
-        let one = Table::open(&list[0..1])?;
-        assert_eq!(rt; one.read(1), Ok((0, 0)));
-        assert_eq!(rt; refused(one.read(2)), Some((11, 0)));
+        reads(
+            &rt,
+            &Table::open(&list[0..1])?,
+            &[(1, Ok((0, 0))), (2, Err((11, 0)))],
+        );
         let full = Table::open(&list[0..256])?;
-        assert_eq!(rt; full.read(1), Ok((0, 0)));
-        assert_eq!(rt; full.read(256), Ok((0, 0)));
-        assert_eq!(rt; refused(full.read(257)), Some((11, 0)));
-        assert_eq!(rt; refused(Table::open(&list)), Some((16, 0)));
-        assert_eq!(rt; refused(Table::open(&[])), Some((16, 0)));
-        assert_eq!(rt; refused(Table::open(&[5, 0, 5])), Some((17, 1)));
-        assert_eq!(rt; refused(Table::open(&[5, 7, 5, 0])), Some((17, 2)));
+        reads(
+            &rt,
+            &full,
+            &[(1, Ok((0, 0))), (256, Ok((0, 0))), (257, Err((11, 0)))],
+        );
+        let unlawful: [(&[u16], (u8, usize)); 4] = [
+            (&list, (16, 0)),
+            (&[], (16, 0)),
+            (&[5, 0, 5], (17, 1)),
+            (&[5, 7, 5, 0], (17, 2)),
+        ];
+        for (list, refusal) in unlawful {
+            assert_eq!(rt; told(Table::open(list)).err(), Some(refusal), "{refusal:?}");
+        }
         Ok(())
     }
 
     #[test]
     fn a_table_in_any_order(rt: HostRuntime) -> Result<(), Fail> {
         let mut table = Table::open(&[9, 65_535, 2, 300])?;
-        assert_eq!(rt; table.put(300, Half::Target, 220), Ok(()));
-        assert_eq!(rt; table.put(65_535, Half::Actual, -32_767), Ok(()));
-        assert_eq!(rt; table.read(2), Ok((0, 0)));
-        assert_eq!(rt; table.read(9), Ok((0, 0)));
-        assert_eq!(rt; table.read(300), Ok((0, 220)));
-        assert_eq!(rt; table.read(65_535), Ok((-32_767, 0)));
-        assert_eq!(rt; refused(table.put(3, Half::Actual, 32_767)), Some((11, 0)));
-        assert_eq!(rt; refused(table.put(9, Half::Actual, 32_767)), Some((12, 0)));
-        assert_eq!(rt; refused(table.put(9, Half::Target, -32_768)), Some((12, 0)));
-        assert_eq!(rt; table.read(9), Ok((0, 0)));
+        for (actor, half, value, answer) in [
+            (300, Half::Target, 220, Ok(())),
+            (65_535, Half::Actual, -32_767, Ok(())),
+            (3, Half::Actual, 32_767, Err((11, 0))),
+            (9, Half::Actual, 32_767, Err((12, 0))),
+            (9, Half::Target, -32_768, Err((12, 0))),
+        ] {
+            assert_eq!(rt;
+                told(table.put(actor, half, value)),
+                answer,
+                "actor {actor}"
+            );
+        }
+        reads(
+            &rt,
+            &table,
+            &[
+                (2, Ok((0, 0))),
+                (9, Ok((0, 0))),
+                (300, Ok((0, 220))),
+                (65_535, Ok((-32_767, 0))),
+            ],
+        );
         Ok(())
     }
 
@@ -79,23 +111,22 @@ mod tests {
         let small = block_of(1, 156);
         let image = Image::open(&small[0..156])?;
         assert_eq!(rt; image.block(), &small[0..156]);
-        assert_eq!(rt; image.read(4), Ok((0, 0)));
-        assert_eq!(rt; refused(image.read(5)), Some((11, 0)));
-        assert_eq!(rt; refused(image.read(0)), Some((11, 0)));
+        reads(
+            &rt,
+            &image,
+            &[(4, Ok((0, 0))), (5, Err((11, 0))), (0, Err((11, 0)))],
+        );
         let mut large = block_of(16, 576);
         // actor 64: page 15, field 3, its target at 132 + 420 + 12 + 2
         large[566] = 0xFB;
         large[567] = 0xFF;
-        assert_eq!(rt; Image::open(&large)?.read(64), Ok((0, -5)));
-        assert_eq!(rt; refused(Image::open(&small)), Some((21, 0)));
-        assert_eq!(rt;
-            refused(Image::open(&block_of(0, 128)[0..128])),
-            Some((21, 0))
-        );
-        assert_eq!(rt; refused(Image::open(&[])), Some((21, 0)));
-        large[567] = 0x7F;
+        reads(&rt, &Image::open(&large)?, &[(64, Ok((0, -5)))]);
         large[566] = 0xFF;
-        assert_eq!(rt; refused(Image::open(&large)), Some((21, 0)));
+        large[567] = 0x7F;
+        let unlawful: [&[u8]; 4] = [&small, &block_of(0, 128)[0..128], &[], &large];
+        for block in unlawful {
+            assert_eq!(rt; told(Image::open(block)).err(), Some((21, 0)));
+        }
         Ok(())
     }
 
@@ -110,28 +141,24 @@ mod tests {
         bytes[166] = 0xFE;
         bytes[167] = 0xFF;
         assert_eq!(rt; image.block(), &bytes[0..184]);
-        assert_eq!(rt; image.read(6), Ok((0x1234, -2)));
+        reads(&rt, &image, &[(6, Ok((0x1234, -2)))]);
         Ok(())
     }
 
     // The same four puts, whatever the store: actor 4 is known, actor 5 is not.
     fn four_puts<S: ActorStore>(rt: &impl Abort, store: &mut S) {
-        assert_eq!(rt;
-            put_and_read(store, 4, Half::Actual, 32_766),
-            Ok((32_766, 0))
-        );
-        assert_eq!(rt;
-            put_and_read(store, 4, Half::Target, -32_767),
-            Ok((32_766, -32_767))
-        );
-        assert_eq!(rt;
-            refused(put_and_read(store, 5, Half::Target, 32_767)),
-            Some((11, 0))
-        );
-        assert_eq!(rt;
-            refused(put_and_read(store, 4, Half::Target, 32_767)),
-            Some((12, 0))
-        );
+        for (actor, half, value, answer) in [
+            (4, Half::Actual, 32_766, Ok((32_766, 0))),
+            (4, Half::Target, -32_767, Ok((32_766, -32_767))),
+            (5, Half::Target, 32_767, Err((11, 0))),
+            (4, Half::Target, 32_767, Err((12, 0))),
+        ] {
+            assert_eq!(rt;
+                told(put_and_read(store, actor, half, value)),
+                answer,
+                "actor {actor}"
+            );
+        }
     }
 
     #[test]
