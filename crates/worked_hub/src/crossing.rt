@@ -18,16 +18,16 @@ fn crossing(rt: HostRuntime) -> Result<(), Fail> {
         &packet[22..28],
         [0x06_u8, 0x42, 0x01, 0x00, 0xDC, 0x00].as_slice()
     );
-    assert_eq!(rt; marks(&hub, 7, (1, 2)), [Ok(Mark::UnderWay); 3]);
+    assert_eq!(rt; marks(&hub, 7, (1, 2))?, [Mark::UnderWay; 3]);
     hub.set_target(1, 230)?;
     assert_eq!(rt;
-        marks(&hub, 7, (1, 2)),
-        [Ok(Mark::Due), Ok(Mark::UnderWay), Ok(Mark::UnderWay)]
+        marks(&hub, 7, (1, 2))?,
+        [Mark::Due, Mark::UnderWay, Mark::UnderWay]
     );
     assert_eq!(rt; told(&mut hub, &packet), Ok((Arrival::Answer, 5)));
     assert_eq!(rt;
-        marks(&hub, 7, (1, 2)),
-        [Ok(Mark::Due), Ok(Mark::Settled), Ok(Mark::Settled)]
+        marks(&hub, 7, (1, 2))?,
+        [Mark::Due, Mark::Settled, Mark::Settled]
     );
     let mut next = [0xFF; 30];
     assert_eq!(rt; send(&mut hub, 7, &mut next)?, (28, 1, 2));

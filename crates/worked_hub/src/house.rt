@@ -35,13 +35,13 @@ pub(crate) fn refused<T: Drop>(answer: Result<T, Fault>) -> Option<(u8, usize)> 
     answer.err().map(numbered)
 }
 
-// How a switch's items stand: those of two actors, and its control word.
-pub(crate) fn marks(hub: &Hub<Table>, id: u16, actors: (u16, u16)) -> [Result<Mark, Fault>; 3] {
-    [
-        hub.actor_mark(id, actors.0),
-        hub.actor_mark(id, actors.1),
-        hub.control_mark(id),
-    ]
+// How the items of a switch stand: two of its actors, and its control word.
+pub(crate) fn marks(hub: &Hub<Table>, id: u16, actors: (u16, u16)) -> Result<[Mark; 3], Fault> {
+    Ok([
+        hub.actor_mark(id, actors.0)?,
+        hub.actor_mark(id, actors.1)?,
+        hub.control_mark(id)?,
+    ])
 }
 
 // A descriptor of switch 8 in an event, which says 16 bytes. What follows is the like of crate worked's, with a hub and a package number.

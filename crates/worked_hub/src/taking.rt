@@ -18,22 +18,20 @@ const EDIT: [u8; 22] = [
 fn edit_value(rt: HostRuntime) -> Result<(), Fail> {
     let mut hub = house()?;
     assert_eq!(rt; told(&mut hub, &EDIT), Ok((Arrival::Event, 1)));
-    assert_eq!(rt; marks(&hub, 7, (1, 2)), [Ok(Mark::Due); 3]);
-    assert_eq!(rt; marks(&hub, 8, (2, 3)), [Ok(Mark::Due); 3]);
+    assert_eq!(rt; marks(&hub, 7, (1, 2))?, [Mark::Due; 3]);
+    assert_eq!(rt; marks(&hub, 8, (2, 3))?, [Mark::Due; 3]);
     Ok(())
 }
 
 // What a switch has told of its keys and of its sensor.
-type Told = (Result<Option<KeyPress>, Fault>, Result<Option<i16>, Fault>);
-
-fn told_of(hub: &Hub<Table>, id: u16) -> Told {
-    (hub.latest_key(id), hub.reading(id))
+fn told_of(hub: &Hub<Table>, id: u16) -> Result<(Option<KeyPress>, Option<i16>), Fault> {
+    Ok((hub.latest_key(id)?, hub.reading(id)?))
 }
 
 #[test]
 fn telling(rt: HostRuntime) -> Result<(), Fail> {
     let mut hub = house()?;
-    assert_eq!(rt; told_of(&hub, 8), (Ok(None), Ok(None)));
+    assert_eq!(rt; told_of(&hub, 8)?, (None, None));
     assert_eq!(rt;
         behind(
             &mut hub,
@@ -43,9 +41,9 @@ fn telling(rt: HostRuntime) -> Result<(), Fail> {
         Ok((Arrival::Event, 2))
     );
     let key = KeyPress { actor: 2, key: 3 };
-    assert_eq!(rt; told_of(&hub, 8), (Ok(Some(key)), Ok(Some(215))));
+    assert_eq!(rt; told_of(&hub, 8)?, (Some(key), Some(215)));
     // what switch 8 told is not told of switch 7
-    assert_eq!(rt; told_of(&hub, 7), (Ok(None), Ok(None)));
+    assert_eq!(rt; told_of(&hub, 7)?, (None, None));
     Ok(())
 }
 
@@ -61,8 +59,8 @@ fn init_request(rt: HostRuntime) -> Result<(), Fail> {
         behind(&mut hub, 0, &[0x08, 0x01, 0, 0, 0x40, 0, 0, 0]),
         Ok((Arrival::Event, 1))
     );
-    assert_eq!(rt; [hub.flags(8), hub.flags(7)], [Ok(0x40), Ok(0)]);
-    assert_eq!(rt; marks(&hub, 8, (2, 3)), [Ok(Mark::Due); 3]);
+    assert_eq!(rt; (hub.flags(8)?, hub.flags(7)?), (0x40, 0));
+    assert_eq!(rt; marks(&hub, 8, (2, 3))?, [Mark::Due; 3]);
     assert!(rt; hub.has_outstanding(8)?);
     Ok(())
 }
