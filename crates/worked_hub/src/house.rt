@@ -50,7 +50,10 @@ const BARE: [u8; 16] = [
 ];
 
 // What a payload was and how many of its messages count; or number and place of its refusal.
-pub(crate) fn told(hub: &mut Hub<Table>, payload: &[u8]) -> Result<(Arrival, usize), (u8, usize)> {
+pub(crate) type Told = Result<(Arrival, usize), (u8, usize)>;
+
+// What the hub tells of a payload.
+pub(crate) fn told(hub: &mut Hub<Table>, payload: &[u8]) -> Told {
     hub.take(payload).map_err(numbered)
 }
 
@@ -65,12 +68,7 @@ fn frame(payload: &mut [u8], number: u16)
     payload[6..8].copy_from_slice(&number.to_le_bytes());
 }
 
-fn joined(
-    hub: &mut Hub<Table>,
-    payload: &mut [u8],
-    number: u16,
-    messages: &[u8],
-) -> Result<(Arrival, usize), (u8, usize)>
+fn joined(hub: &mut Hub<Table>, payload: &mut [u8], number: u16, messages: &[u8]) -> Told
     requires exact { length payload.old ≡ 16 + length messages.now }
     requires most { length payload.old < 65536 }
 {
@@ -80,11 +78,7 @@ fn joined(
 }
 
 // The same for a payload of switch 8 with this package number and at most 48 bytes of messages.
-pub(crate) fn behind(
-    hub: &mut Hub<Table>,
-    number: u16,
-    messages: &[u8],
-) -> Result<(Arrival, usize), (u8, usize)>
+pub(crate) fn behind(hub: &mut Hub<Table>, number: u16, messages: &[u8]) -> Told
     requires { length messages.now ≤ 48 }
 {
     let mut room = [0; 64];

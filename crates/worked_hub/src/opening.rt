@@ -29,7 +29,7 @@ fn all_refused(rt: &impl Abort, hub: &mut Hub<Table>, enrolments: &[(u16, &[u16]
         assert_eq!(rt;
             refused(hub.enrol(id, actors)),
             Some(refusal),
-            "switch {id}"
+            "switch {id}, list {actors:?}"
         );
     }
 }
@@ -44,12 +44,13 @@ fn enrolments(rt: HostRuntime) -> Result<(), Fail> {
             (0, &[1], (14, 0)),
             (7, &[], (14, 0)),
             (9, &[], (16, 0)),
-            (10, &[1; 65], (16, 0)),
-            (11, &[3, 1, 3], (17, 2)),
-            (12, &[3, 0], (17, 1)),
-            (13, &[3, 5, 3], (11, 1)),
+            (9, &[1; 65], (16, 0)),
+            (9, &[3, 1, 3], (17, 2)),
+            (9, &[3, 0], (17, 1)),
+            (9, &[3, 5, 3], (11, 1)),
         ],
     );
+    // none of them enrolled it
     assert_eq!(rt; refused(hub.flags(9)), Some((6, 0)));
     for id in 100..130u16 {
         hub.enrol(id, &[1])?;

@@ -66,7 +66,7 @@ fn init_request(rt: HostRuntime) -> Result<(), Fail> {
 }
 
 // Messages of switch 8 with a package number, and what is told of them.
-type Case<'a> = (u16, &'a [u8], Result<(Arrival, usize), (u8, usize)>);
+type Case<'a> = (u16, &'a [u8], Told);
 
 // Each is told as it should be, one after another. At most 48 bytes of messages fit.
 fn all_told(rt: &impl Abort, hub: &mut Hub<Table>, cases: &[Case<'_>]) {
@@ -114,7 +114,7 @@ fn descriptors(rt: HostRuntime) -> Result<(), Fail> {
     assert_eq!(rt; told(&mut hub, &EDIT[0..15]), Err((1, 0)));
     // the length is looked at before anything in the payload
     assert_eq!(rt; told(&mut hub, &[0; 1473]), Err((1, 0)));
-    let cases: [(&[(usize, u8)], Result<(Arrival, usize), (u8, usize)>); 6] = [
+    let cases: [(&[(usize, u8)], Told); 6] = [
         (&[(1, 0x75)], Err((2, 0))),
         (&[(2, 21)], Err((3, 2))),
         (&[(5, 0x03)], Err((4, 4))),
