@@ -7,8 +7,8 @@ use Rattle.fault.specs.declared.Fault.{Fault}
 use Rattle.fault.specs.declared.Fault.TheVariants as fault
 use Rattle.fault.specs.declared.FrameFault.TheVariants.{Project}
 use Rattle.packet.proofs.Spelling.{past}
-use Rattle.packet.specs.declared.records.Message.{Message}
-use Rattle.packet.specs.declared.words.Descriptor.{Descriptor}
+use Rattle.packet.specs.declared.message.Message.{Message}
+use Rattle.packet.specs.declared.descriptor.Descriptor.{Descriptor}
 use Rattle.packet.specs.Messages.{understood}
 use Rattle.packet.specs.Reading.{messages_from}
 use Rattle.packet.specs.Words.{descriptor_of}

@@ -3,7 +3,7 @@ use Rattle.std.proofs.Common.{◌≡◌, ℕ, ◌+◌, ◌≤◌, Bool, true, fa
 use Rattle.std.proofs.lemmas.Bool.{false≢true}
 use Rattle.std.specs.Option.{option_or}
 use Rattle.fault.specs.declared.Fault.{Fault}
-use Rattle.packet.specs.declared.records.Message.{Message}
+use Rattle.packet.specs.declared.message.Message.{Message}
 use Rattle.packet.specs.Messages.{is_known}
 use Rattle.packet.specs.Walking.{ahead}
 use Rattle.model.specs.declared.item.Item.{Item}

@@ -5,11 +5,11 @@ use Rattle.std.proofs.lemmas.Slice.{drop-put_mid}
 use Rattle.std.proofs.lemmas.Bool.{and_parts, cond-false, not-true}
 use Rattle.std.specs.List.{flat_map}
 use Rattle.fault.specs.declared.Fault.{Fault}
-use Rattle.packet.specs.declared.drafting.Closed.{Closed}
-use Rattle.packet.specs.declared.drafting.Draft.{Draft}
-use Rattle.packet.specs.declared.records.Record.{Record}
-use Rattle.packet.specs.declared.records.Record.TheVariants.{Control}
-use Rattle.packet.specs.declared.words.Descriptor.{Descriptor}
+use Rattle.packet.specs.declared.draft.Closed.{Closed}
+use Rattle.packet.specs.declared.draft.Draft.{Draft}
+use Rattle.packet.specs.declared.message.Record.{Record}
+use Rattle.packet.specs.declared.message.Record.TheVariants.{Control}
+use Rattle.packet.specs.declared.descriptor.Descriptor.{Descriptor}
 use Rattle.packet.specs.Drafts as drafts
 use Rattle.packet.specs.Drafts.{Drafting, ReadsBack, RecordFits, WordsFit, added, added_bytes, begun, begun_bytes, closed, closed_bytes, full, length_of, open_bytes, over, size_of}
 use Rattle.packet.specs.Packets.{packet_bytes, record_bytes}

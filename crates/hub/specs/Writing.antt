@@ -1,9 +1,9 @@
 -- Records written behind a draft, one after another.
 use Rattle.std.specs.Prelude.{◌≡◌, ℕ, ◌+◌, ◌≤◌, List, [], ◌++◌, length, take, drop}
 use Rattle.std.specs.List.{flat_map}
-use Rattle.packet.specs.declared.drafting.Draft.{Draft}
-use Rattle.packet.specs.declared.records.Record.{Record}
-use Rattle.packet.specs.declared.words.Descriptor.{Descriptor}
+use Rattle.packet.specs.declared.draft.Draft.{Draft}
+use Rattle.packet.specs.declared.message.Record.{Record}
+use Rattle.packet.specs.declared.descriptor.Descriptor.{Descriptor}
 use Rattle.packet.specs.Drafts.{Drafting, size_of}
 use Rattle.packet.specs.Packets.{packet_bytes, record_bytes}
 

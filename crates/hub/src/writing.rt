@@ -3,7 +3,7 @@
 // to call, would need a starred clause in each to say that its buffer is still the caller's.
 ghost use Rattle.std.specs.Prelude.{◌≡◌, ◌+◌, ◌*◌, ◌≤◌, true, false, [], ◌∷◌, ◌++◌, length, drop, IsOk, if◌then◌else◌, FitsSigned, ◌==◌};
 ghost use Rattle.std.specs.Int.{w16};
-ghost use Rattle.packet.specs.declared.records.Record.TheVariants.{Control};
+ghost use Rattle.packet.specs.declared.message.Record.TheVariants.{Control};
 ghost use Rattle.packet.specs.Drafts.{RecordFits, added, size_of};
 ghost use Rattle.packet.specs.Packets.{packet_bytes};
 ghost use Rattle.packet.specs.Words.{major};

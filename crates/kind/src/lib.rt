@@ -4,17 +4,17 @@
 ghost use Rattle.kind.specs.Kinds.{control, edit_value, real_value, state};
 ghost use Rattle.kind.specs.Layout.{Agrees};
 
+mod event;
 mod flags;
-mod keys;
 mod message;
-mod readings;
-mod values;
+mod temperature;
+mod value;
 
+pub use event::Event;
 pub use flags::{CONTROL_BITS, CONTROL_ID, Control, Flags, STATE_ID, State, asks_init};
-pub use keys::Event;
 pub use message::{Kind, read, write};
-pub use readings::Temperature;
-pub use values::{EDIT_VALUE_ID, EditValue, REAL_VALUE_ID, RealValue, Value};
+pub use temperature::Temperature;
+pub use value::{EDIT_VALUE_ID, EditValue, REAL_VALUE_ID, RealValue, Value};
 
 // Nothing runs here: it states that each kind of flags or values is the one of its name.
 pub fn flags_and_values_stand()

@@ -1,6 +1,6 @@
 -- However a switch's messages are dealt over accepted events, the hub and the total are those of the messages end to end.
 use Rattle.std.proofs.Common.{◌≡◌, ℕ, ◌+◌, List, [], ◌∷◌, ◌++◌, sym, refl, ap, ◌∙◌, ap₂, arith}
-use Rattle.packet.specs.declared.records.Message.{Message}
+use Rattle.packet.specs.declared.message.Message.{Message}
 use Rattle.model.specs.Models.{HubModel}
 use Rattle.model.specs.Taking.{heard_message}
 use Rattle.law.specs.Law as law

@@ -1,7 +1,7 @@
 -- The law is not empty: runs in which a switch is enrolled and told of a new target, answers, and has nothing outstanding.
 use Rattle.std.proofs.Common.{◌≡◌, ℕ, false, [], ◌∷◌, replicate, pos, Some, None, Ok, refl, subst, inl, ⊎_elim, arith, lit<}
-use Rattle.packet.specs.declared.records.Record.TheVariants.{Control, EditValue, RealValue, State}
-use Rattle.packet.specs.declared.words.Descriptor.{Descriptor}
+use Rattle.packet.specs.declared.message.Record.TheVariants.{Control, EditValue, RealValue, State}
+use Rattle.packet.specs.declared.descriptor.Descriptor.{Descriptor}
 use Rattle.packet.specs.Messages.{messages_of}
 use Rattle.packet.specs.Packets.{packet_bytes}
 use Rattle.store.specs.declared.meaning.Half.TheVariants.{Target}

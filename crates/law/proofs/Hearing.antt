@@ -5,10 +5,10 @@ use Rattle.std.specs.List.{AllByRecursion}
 use Rattle.std.proofs.lemmas.Bool.{and_parts, cond_both, eq-eqb, true≢false}
 use Rattle.fault.specs.declared.Fault.{Fault}
 use Rattle.kind.specs.Kinds.{asks_init}
-use Rattle.packet.specs.declared.records.Message.{Message}
-use Rattle.packet.specs.declared.records.Message.TheVariants as message
-use Rattle.packet.specs.declared.records.Record.{Record}
-use Rattle.packet.specs.declared.records.Record.TheVariants.{State, Control, EditValue, RealValue, Event, Temperature}
+use Rattle.packet.specs.declared.message.Message.{Message}
+use Rattle.packet.specs.declared.message.Message.TheVariants as message
+use Rattle.packet.specs.declared.message.Record.{Record}
+use Rattle.packet.specs.declared.message.Record.TheVariants.{State, Control, EditValue, RealValue, Event, Temperature}
 use Rattle.store.specs.declared.meaning.Half.TheVariants.{Target}
 use Rattle.store.specs.Meaning.{Known, forbidden, put_answer, refusal}
 use Rattle.model.specs.declared.item.Item.{Item}

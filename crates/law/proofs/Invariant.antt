@@ -1,8 +1,8 @@
 -- What holds in every world that a run comes to.
 use Rattle.std.proofs.Common.{◌≡◌, ℕ, suc, ◌%◌, ◌^◌, ◌<◌, ◌≤◌, true, ◌⊎◌, List, [], ◌∷◌, ◌++◌, length, ℤ, is_some, Some, None, Option}
 use Rattle.std.specs.List.{AllByRecursion}
-use Rattle.packet.specs.declared.records.Message.{Message}
-use Rattle.packet.specs.declared.words.Descriptor.{Descriptor}
+use Rattle.packet.specs.declared.message.Message.{Message}
+use Rattle.packet.specs.declared.descriptor.Descriptor.{Descriptor}
 use Rattle.store.specs.declared.meaning.Half.{Half}
 use Rattle.store.specs.Meaning.{Known}
 use Rattle.model.specs.declared.item.Item.{Item}

@@ -3,10 +3,10 @@ use Rattle.std.proofs.Common.{◌≡◌, ℕ, Bool, true, false, cond, eqb, List
 use Rattle.std.specs.Option.{option_map}
 use Rattle.std.proofs.lemmas.Bool.{cases_eq, not_from_false, or_left, or_right}
 use Rattle.kind.specs.Kinds.{asks_init}
-use Rattle.packet.specs.declared.records.Message.{Message}
-use Rattle.packet.specs.declared.records.Message.TheVariants as message
-use Rattle.packet.specs.declared.records.Record.{Record}
-use Rattle.packet.specs.declared.records.Record.TheVariants.{State, Control, EditValue, RealValue, Event, Temperature}
+use Rattle.packet.specs.declared.message.Message.{Message}
+use Rattle.packet.specs.declared.message.Message.TheVariants as message
+use Rattle.packet.specs.declared.message.Record.{Record}
+use Rattle.packet.specs.declared.message.Record.TheVariants.{State, Control, EditValue, RealValue, Event, Temperature}
 use Rattle.store.specs.declared.meaning.Half.TheVariants.{Target}
 use Rattle.store.specs.Meaning.{forbidden, refusal}
 use Rattle.model.specs.declared.item.Item.{Item}

@@ -4,8 +4,8 @@ use Rattle.std.proofs.lemmas.Bool.{eq-eqb, ne_eqb}
 use Rattle.std.proofs.lemmas.Option.{none-some, same_Some}
 use Rattle.fault.specs.declared.Fault.{Fault}
 use Rattle.packet.proofs.Spelling.{same_answer}
-use Rattle.packet.specs.declared.records.Message.{Message}
-use Rattle.packet.specs.declared.words.Descriptor.{Descriptor}
+use Rattle.packet.specs.declared.message.Message.{Message}
+use Rattle.packet.specs.declared.descriptor.Descriptor.{Descriptor}
 use Rattle.packet.specs.Messages.{is_known, understood}
 use Rattle.packet.specs.Reading.{behind, messages_from}
 use Rattle.packet.specs.Words.{descriptor_of}

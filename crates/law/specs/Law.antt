@@ -1,7 +1,7 @@
 -- The law of truthful switches.
 use Rattle.std.specs.Prelude.{◌≡◌, ℕ, ◌+◌, ◌<◌, true, false, ◌⊎◌, List, [], ◌∷◌, ◌++◌, take, Some, None, Ok}
-use Rattle.packet.specs.declared.records.Message.{Message}
-use Rattle.packet.specs.declared.words.Descriptor.{Descriptor}
+use Rattle.packet.specs.declared.message.Message.{Message}
+use Rattle.packet.specs.declared.descriptor.Descriptor.{Descriptor}
 use Rattle.store.specs.declared.meaning.Half.TheVariants.{Actual, Target}
 use Rattle.store.specs.Meaning as store
 use Rattle.model.specs.declared.mark.Mark.{Mark}

@@ -2,10 +2,10 @@
 use Rattle.std.specs.Prelude.{◌≡◌, ℕ, suc, ◌+◌, ◌^◌, ◌<◌, true, cond, List, [], ◌∷◌, ◌++◌, length, take, ℤ, Some, None, Ok, Err, Option, ◌==◌, ◌≢◌}
 use Rattle.std.specs.List.{AllByRecursion}
 use Rattle.fault.specs.declared.Fault.{Fault}
-use Rattle.packet.specs.declared.records.Message.{Message}
-use Rattle.packet.specs.declared.records.Message.TheVariants.{Known}
-use Rattle.packet.specs.declared.records.Record.TheVariants.{EditValue}
-use Rattle.packet.specs.declared.words.Descriptor.{Descriptor}
+use Rattle.packet.specs.declared.message.Message.{Message}
+use Rattle.packet.specs.declared.message.Message.TheVariants.{Known}
+use Rattle.packet.specs.declared.message.Record.TheVariants.{EditValue}
+use Rattle.packet.specs.declared.descriptor.Descriptor.{Descriptor}
 use Rattle.store.specs.declared.meaning.Half.{Half}
 use Rattle.store.specs.declared.meaning.Half.TheVariants.{Target}
 use Rattle.store.specs.Meaning as store

@@ -8,11 +8,11 @@ use Rattle.kind.specs.Layout.{Layout, Lawful, broken, message_of, read_of, word_
 use Rattle.kind.specs.Laws.{control_lawful, edit_value_lawful, event_lawful, real_value_lawful, state_lawful, temperature_lawful}
 use Rattle.kind.proofs.Messages.{reads_back}
 use Rattle.kind.specs.Words.{word_round}
-use Rattle.packet.specs.declared.drafting.Draft.{Draft}
-use Rattle.packet.specs.declared.records.Message.TheVariants.{Known}
-use Rattle.packet.specs.declared.records.Record.{Record}
-use Rattle.packet.specs.declared.records.Record.TheVariants.{State, Control, EditValue, RealValue, Event, Temperature}
-use Rattle.packet.specs.declared.words.Descriptor.{Descriptor}
+use Rattle.packet.specs.declared.draft.Draft.{Draft}
+use Rattle.packet.specs.declared.message.Message.TheVariants.{Known}
+use Rattle.packet.specs.declared.message.Record.{Record}
+use Rattle.packet.specs.declared.message.Record.TheVariants.{State, Control, EditValue, RealValue, Event, Temperature}
+use Rattle.packet.specs.declared.descriptor.Descriptor.{Descriptor}
 use Rattle.packet.specs.Drafts as drafts
 use Rattle.packet.specs.Drafts.{Drafting, ReadsBack, RecordFits, WordsFit, added, added_bytes, appended, appended_bytes, begun, begun_bytes, full, laid_out, length_of, masked, open_bytes, over, size_of}
 use Rattle.packet.specs.Packets.{head_bytes, packet_bytes, record_bytes}

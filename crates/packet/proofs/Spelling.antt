@@ -7,16 +7,16 @@ use Rattle.fault.specs.declared.Fault.{Fault}
 use Rattle.kind.specs.Layout.{Layout, broken, read_of, word}
 use Rattle.kind.specs.Kinds.{state, control, edit_value, real_value, event, flags, no_actor, some_actor, temperature}
 use Rattle.kind.proofs.Messages.{accepted}
-use Rattle.packet.specs.declared.records.Record.{Record}
-use Rattle.packet.specs.declared.records.Record.TheVariants.{State, Control, EditValue, RealValue, Event, Temperature}
-use Rattle.packet.specs.declared.records.Message.{Message}
-use Rattle.packet.specs.declared.records.Message.TheVariants.{Known, Unknown}
+use Rattle.packet.specs.declared.message.Record.{Record}
+use Rattle.packet.specs.declared.message.Record.TheVariants.{State, Control, EditValue, RealValue, Event, Temperature}
+use Rattle.packet.specs.declared.message.Message.{Message}
+use Rattle.packet.specs.declared.message.Message.TheVariants.{Known, Unknown}
 use Rattle.packet.specs.Grammar as grammar
 use Rattle.packet.specs.Grammar.{Grammar, Lists, NoKind, Says, Spells}
 use Rattle.packet.specs.Messages.{followed, message_of, messages_of, told}
 use Rattle.packet.specs.Reading.{behind, messages_from, reading_of}
 use Rattle.packet.specs.Words.{descriptor_of, major, words_of}
-use Rattle.packet.specs.declared.words.Descriptor.{Descriptor}
+use Rattle.packet.specs.declared.descriptor.Descriptor.{Descriptor}
 use Rattle.packet.proofs.Steps.{none_left, one_then, stops}
 
 pub not_broken : (s : List ℕ) → 4 ≤ length s → 4 ≤ get_or s 0 0 → get_or s 0 0 ≤ length s → broken s ≡ false

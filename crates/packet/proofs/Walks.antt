@@ -2,7 +2,7 @@
 use Rattle.std.proofs.Common.{◌≡◌, ℕ, ◌+◌, ◌-◌, ◌<◌, ◌≤◌, List, [], length, get_or, take, drop, IfOk, Ok, Err, Result, refl, ap, ◌∙◌, add-zero, arith}
 use Rattle.std.proofs.lemmas.List.{drop-drop, get_or-drop, length-drop, take_rest}
 use Rattle.fault.specs.declared.Fault.{Fault}
-use Rattle.packet.specs.declared.records.Message.{Message}
+use Rattle.packet.specs.declared.message.Message.{Message}
 use Rattle.packet.specs.Messages.{followed, message_of, messages_of}
 use Rattle.packet.specs.Reading.{messages_from}
 use Rattle.packet.specs.Walking.{Walked, advanced, ahead, placed}

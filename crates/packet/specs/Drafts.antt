@@ -8,13 +8,13 @@ use Rattle.fault.specs.declared.FrameFault.TheVariants.{MajorVersion}
 use Rattle.fault.specs.declared.MessageFault.TheVariants.{ActorRule}
 use Rattle.kind.specs.Kinds.{ReadingFits, control, edit_value, event, real_value, state, temperature}
 use Rattle.kind.specs.Layout.{Layout, message_of, word_bytes}
-use Rattle.packet.specs.declared.drafting.Closed.{Closed}
-use Rattle.packet.specs.declared.drafting.Draft.{Draft}
-use Rattle.packet.specs.declared.records.Message.{Message}
-use Rattle.packet.specs.declared.records.Message.TheVariants.{Known}
-use Rattle.packet.specs.declared.records.Record.{Record}
-use Rattle.packet.specs.declared.records.Record.TheVariants.{State, Control, EditValue, RealValue, Event, Temperature}
-use Rattle.packet.specs.declared.words.Descriptor.{Descriptor}
+use Rattle.packet.specs.declared.draft.Closed.{Closed}
+use Rattle.packet.specs.declared.draft.Draft.{Draft}
+use Rattle.packet.specs.declared.message.Message.{Message}
+use Rattle.packet.specs.declared.message.Message.TheVariants.{Known}
+use Rattle.packet.specs.declared.message.Record.{Record}
+use Rattle.packet.specs.declared.message.Record.TheVariants.{State, Control, EditValue, RealValue, Event, Temperature}
+use Rattle.packet.specs.declared.descriptor.Descriptor.{Descriptor}
 use Rattle.packet.specs.Packets.{head_bytes, packet_bytes}
 use Rattle.packet.specs.Reading.{reading_of}
 use Rattle.packet.specs.Words.{major}

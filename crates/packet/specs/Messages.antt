@@ -5,10 +5,10 @@ use Rattle.fault.specs.declared.Fault.{Fault}
 use Rattle.fault.specs.declared.Fault.TheVariants as fault
 use Rattle.kind.specs.Layout.{broken, read_of}
 use Rattle.kind.specs.Kinds.{state, control, edit_value, real_value, event, temperature}
-use Rattle.packet.specs.declared.records.Record.{Record}
-use Rattle.packet.specs.declared.records.Record.TheVariants.{State, Control, EditValue, RealValue, Event, Temperature}
-use Rattle.packet.specs.declared.records.Message.{Message}
-use Rattle.packet.specs.declared.records.Message.TheVariants.{Known, Unknown}
+use Rattle.packet.specs.declared.message.Record.{Record}
+use Rattle.packet.specs.declared.message.Record.TheVariants.{State, Control, EditValue, RealValue, Event, Temperature}
+use Rattle.packet.specs.declared.message.Message.{Message}
+use Rattle.packet.specs.declared.message.Message.TheVariants.{Known, Unknown}
 
 abbrev pub is_known : Message → Bool
 is_known (Known r) = true

@@ -1,9 +1,9 @@
 -- A whole payload: its descriptor, then its messages.
 use Rattle.std.specs.Prelude.{ℕ, ◌+◌, List, drop, Ok, Err, Result}
 use Rattle.fault.specs.declared.Fault.{Fault}
-use Rattle.packet.specs.declared.records.Message.{Message}
-use Rattle.packet.specs.declared.words.Descriptor.{Descriptor}
-use Rattle.packet.specs.declared.reading.Packet.{Packet}
+use Rattle.packet.specs.declared.message.Message.{Message}
+use Rattle.packet.specs.declared.descriptor.Descriptor.{Descriptor}
+use Rattle.packet.specs.declared.packet.Packet.{Packet}
 use Rattle.packet.specs.Words.{descriptor_of}
 use Rattle.packet.specs.Messages.{messages_of, understood}
 

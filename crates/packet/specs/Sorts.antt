@@ -1,7 +1,7 @@
 -- What a packet is to the controller.
 use Rattle.std.specs.Prelude.{ℕ, cond, List, ◌++◌, ◌==◌, codes, decimal}
-use Rattle.packet.specs.declared.sorts.Sort.{Sort}
-use Rattle.packet.specs.declared.sorts.Sort.TheVariants.{Event, Answer}
+use Rattle.packet.specs.declared.sort.Sort.{Sort}
+use Rattle.packet.specs.declared.sort.Sort.TheVariants.{Event, Answer}
 
 -- package number 0 is an event's, any other is the number of what is answered
 abbrev pub sort_of : ℕ → Sort

@@ -1,7 +1,7 @@
 -- A cursor over a payload: one message at a time, each with its offset.
 use Rattle.std.specs.Prelude.{◌≡◌, ℕ, ◌+◌, cond, List, [], ◌∷◌, length, drop, Some, None, Ok, Err, Option, Result, nat_lt, slice_index}
 use Rattle.fault.specs.declared.Fault.{Fault}
-use Rattle.packet.specs.declared.records.Message.{Message}
+use Rattle.packet.specs.declared.message.Message.{Message}
 use Rattle.packet.specs.Messages.{message_of}
 use Rattle.packet.specs.Reading.{messages_from}
 

@@ -4,7 +4,7 @@ use Rattle.fault.specs.declared.FrameFault.TheVariants as frame
 use Rattle.fault.specs.declared.Fault.{Fault}
 use Rattle.fault.specs.declared.Fault.TheVariants.{Frame}
 use Rattle.kind.specs.Layout.{word}
-use Rattle.packet.specs.declared.words.Descriptor.{Descriptor}
+use Rattle.packet.specs.declared.descriptor.Descriptor.{Descriptor}
 
 -- the high byte of a FrameVersion
 abbrev pub major : ℕ → ℕ

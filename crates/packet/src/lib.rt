@@ -1,16 +1,16 @@
 // Payloads: the descriptor, the messages behind it, and drafts of packets to be sent.
 #![tactic(auto)]
 
-mod drafting;
-mod reading;
-mod records;
-mod sorts;
-mod walking;
-mod words;
+mod cursor;
+mod descriptor;
+mod draft;
+mod message;
+mod packet;
+mod sort;
 
-pub use drafting::{Closed, Draft};
-pub use reading::Packet;
-pub use records::{Message, Record};
-pub use sorts::Sort;
-pub use walking::Cursor;
-pub use words::{DESCRIPTOR_LEN, Descriptor, FRAME_ID, MAJOR_VERSION, PAYLOAD_MOST};
+pub use cursor::Cursor;
+pub use descriptor::{DESCRIPTOR_LEN, Descriptor, FRAME_ID, MAJOR_VERSION, PAYLOAD_MOST};
+pub use draft::{Closed, Draft};
+pub use message::{Message, Record};
+pub use packet::Packet;
+pub use sort::Sort;

@@ -1,9 +1,9 @@
 -- What an accepted line comes to, and that the messages of its payload all read.
 use Rattle.std.proofs.Common.{◌≡◌, ℕ, true, List, take, is_ok, Ok, Err, Result, refl, ap, ◌∙◌, arith}
 use Rattle.fault.specs.declared.Fault.{Fault}
-use Rattle.packet.specs.declared.records.Message.{Message}
-use Rattle.packet.specs.declared.reading.Packet.{Packet}
-use Rattle.packet.specs.declared.words.Descriptor.{Descriptor}
+use Rattle.packet.specs.declared.message.Message.{Message}
+use Rattle.packet.specs.declared.packet.Packet.{Packet}
+use Rattle.packet.specs.declared.descriptor.Descriptor.{Descriptor}
 use Rattle.packet.specs.Reading.{behind, messages_from, packet_of, reading_of}
 use Rattle.packet.specs.Words.{descriptor_of}
 use Rattle.umpdump.specs.Accepted.{accepted_of, sized}

@@ -1,7 +1,7 @@
 -- What a line of the capture is taken for: a packet of so many bytes, or the first check that fails.
 use Rattle.std.specs.Prelude.{ℕ, List, take, Ok, Err, Result}
 use Rattle.fault.specs.declared.Fault.{Fault}
-use Rattle.packet.specs.declared.reading.Packet.{Packet}
+use Rattle.packet.specs.declared.packet.Packet.{Packet}
 use Rattle.packet.specs.Reading.{packet_of, reading_of}
 
 abbrev pub sized : ℕ → Result Packet Fault → Result (ℕ × Packet) Fault

@@ -1,7 +1,7 @@
 -- What is shown of a packet and of its messages.
 use Rattle.std.specs.Prelude.{ℕ, zero, suc, Bool, true, false, List, [], ℤ, pos, negsuc, Some, None, codes, Option}
-use Rattle.packet.specs.declared.records.Record.{Record}
-use Rattle.packet.specs.declared.records.Record.TheVariants.{State, Control, EditValue, RealValue, Event, Temperature}
+use Rattle.packet.specs.declared.message.Record.{Record}
+use Rattle.packet.specs.declared.message.Record.TheVariants.{State, Control, EditValue, RealValue, Event, Temperature}
 
 -- a number with its sign; zero has none
 abbrev pub signed : Bool → ℕ → ℤ

@@ -14,8 +14,8 @@ use Rattle.model.specs.Opening.{enrol, new_hub, opened}
 use Rattle.model.specs.Questions.{actor_mark, asked, control_mark, reading_at}
 use Rattle.model.specs.Settings.{set_control, set_value}
 use Rattle.model.specs.Taking.{take_payload}
-use Rattle.packet.specs.declared.records.Message.TheVariants.{Known}
-use Rattle.packet.specs.declared.records.Record.TheVariants.{Temperature}
+use Rattle.packet.specs.declared.message.Message.TheVariants.{Known}
+use Rattle.packet.specs.declared.message.Record.TheVariants.{Temperature}
 use Rattle.packet.specs.Messages.{message_of}
 use Rattle.store.specs.declared.meaning.Half.TheVariants.{Actual, Target}
 use Rattle.store.specs.Lists.{zeros}

@@ -1,6 +1,6 @@
 use Rattle.std.proofs.Common.{cond, List, [], get_or, take, sym, subst, arith}
 use Rattle.std.proofs.lemmas.List.{take_all}
-use Rattle.packet.specs.declared.records.Record.{Record}
+use Rattle.packet.specs.declared.message.Record.{Record}
 use Rattle.model.specs.declared.item.Item.{Item}
 use Rattle.model.specs.Composing.{actor_records, item_records}
 use Rattle.model.specs.Marks.{is_outstanding}

@@ -1,5 +1,5 @@
 use Rattle.std.proofs.Common.{◌≡◌, ℕ, ◌<◌, ◌≤◌, true, false, List, ◌++◌, length, drop, is_some, Some, sym, ap, ◌∙◌, ap₂, arith}
-use Rattle.packet.specs.declared.words.Descriptor.{Descriptor}
+use Rattle.packet.specs.declared.descriptor.Descriptor.{Descriptor}
 use Rattle.packet.specs.Packets.{packet_bytes}
 use Rattle.model.specs.Composing.{has_outstanding, packet_for, packet_over, records_for, words_for}
 use Rattle.model.specs.declared.told.Numbers.{Numbers}

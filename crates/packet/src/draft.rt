@@ -3,8 +3,8 @@ ghost use Rattle.std.specs.Prelude.{◌≡◌, ◌+◌, ◌≤◌, true, List, l
 ghost use Rattle.kind.specs.Layout.{message_of, word_bytes};
 ghost use Rattle.packet.specs.Drafts.{ReadsBack, added, added_bytes, appended, appended_bytes, begun, begun_bytes, closed, closed_bytes, full, open_bytes, over, size_of};
 
-use crate::records::Record;
-use crate::words::{DESCRIPTOR_LEN, Descriptor, FRAME_ID, MAJOR_VERSION, PAYLOAD_MOST};
+use crate::descriptor::{DESCRIPTOR_LEN, Descriptor, FRAME_ID, MAJOR_VERSION, PAYLOAD_MOST};
+use crate::message::Record;
 use fault::{CallFault, Fault, FrameFault, MessageFault};
 use kind::{Control, EditValue, Event, Kind, RealValue, State, Temperature};
 

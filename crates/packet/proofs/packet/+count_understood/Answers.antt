@@ -3,8 +3,8 @@ use Rattle.std.proofs.lemmas.Result.{err_from_is_err_and}
 use Rattle.packet.specs.Messages.{is_known}
 use Rattle.packet.specs.Reading.{count_of, counted_on}
 use Rattle.packet.proofs.Steps.{none_left, one_more, stops}
-use Rattle.packet.proofs.reading.+count_understood.Goals as goal
-use Rattle.packet.proofs.reading.+count_understood.Goals.{then-is_known, else-is_known}
+use Rattle.packet.proofs.packet.+count_understood.Goals as goal
+use Rattle.packet.proofs.packet.+count_understood.Goals.{then-is_known, else-is_known}
 
 pub returns-in_default : goal.returns-in_default
 returns-in_default t c =

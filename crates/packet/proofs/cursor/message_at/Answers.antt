@@ -2,7 +2,7 @@ use Rattle.std.proofs.Common.{ℕ, List, sym, ap, ◌∙◌}
 use Rattle.std.proofs.lemmas.List.{take_rest}
 use Rattle.packet.specs.Messages.{message_of}
 use Rattle.packet.proofs.Walks.{walked, whole_at}
-use Rattle.packet.proofs.walking.message_at.Goals as goal
+use Rattle.packet.proofs.cursor.message_at.Goals as goal
 
 pub returns-clause-walked : goal.returns-clause-walked
 returns-clause-walked c =

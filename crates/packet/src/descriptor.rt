@@ -3,7 +3,7 @@ ghost use Rattle.std.specs.Prelude.{◌≡◌, ◌≤◌, length, OnOk};
 ghost use Rattle.packet.specs.Sorts.{sort_of};
 ghost use Rattle.packet.specs.Words.{descriptor_of};
 
-use crate::sorts::Sort;
+use crate::sort::Sort;
 use fault::{Fault, FrameFault};
 
 // The FrameID of every packet of this protocol.

@@ -2,7 +2,7 @@ use Rattle.std.proofs.Common.{ℕ, ◌+◌, List, ◌++◌, take, sym, ◌∙◌
 use Rattle.std.proofs.lemmas.List.{drop-drop}
 use Rattle.packet.specs.Drafts.{ReadsBack}
 use Rattle.packet.proofs.Packets.{packet_back}
-use Rattle.packet.proofs.drafting.Draft.fill_length.Goals as goal
+use Rattle.packet.proofs.draft.Draft.fill_length.Goals as goal
 
 pub returns-clause-back : goal.returns-clause-back
 returns-clause-back c =

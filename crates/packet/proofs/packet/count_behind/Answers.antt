@@ -3,7 +3,7 @@ use Rattle.std.proofs.lemmas.List.{take_rest}
 use Rattle.fault.specs.declared.Fault.{Fault}
 use Rattle.packet.specs.Messages.{messages_of}
 use Rattle.packet.specs.Reading.{count_of, counted_on}
-use Rattle.packet.proofs.reading.count_behind.Goals as goal
+use Rattle.packet.proofs.packet.count_behind.Goals as goal
 
 none_before : (r : Result ℕ Fault) → counted_on 0 r ≡ r
 none_before (Ok n) = ap Ok (omega arith)

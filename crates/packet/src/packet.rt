@@ -4,8 +4,8 @@ ghost use Rattle.packet.specs.Grammar.{Grammar};
 ghost use Rattle.packet.specs.Messages.{messages_of};
 ghost use Rattle.packet.specs.Reading.{count_of, counted_on, messages_from, packet_of, reading_of};
 
-use crate::records::Message;
-use crate::words::{DESCRIPTOR_LEN, Descriptor};
+use crate::descriptor::{DESCRIPTOR_LEN, Descriptor};
+use crate::message::Message;
 use fault::Fault;
 
 // What is known of an accepted payload; a `Cursor` gives its messages.

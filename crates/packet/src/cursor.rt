@@ -4,8 +4,8 @@ ghost use Rattle.packet.specs.Reading.{messages_from};
 ghost use Rattle.packet.specs.Messages.{message_of};
 ghost use Rattle.packet.specs.Walking.{Walked, next_of, place_after, placed, advanced};
 
-use crate::records::Message;
-use crate::words::DESCRIPTOR_LEN;
+use crate::descriptor::DESCRIPTOR_LEN;
+use crate::message::Message;
 use fault::Fault;
 
 // A place in a payload: at the first byte of a message, or at the end.
