@@ -5,7 +5,7 @@ use Rattle.std.proofs.lemmas.Bool.{cases_eq, eq-eqb, true≢false}
 use Rattle.fault.specs.declared.CallFault.TheVariants.{NoSlip}
 use Rattle.fault.specs.declared.Fault.TheVariants as fault
 use Rattle.packet.proofs.Spelling.{same_answer}
-use Rattle.store.specs.declared.meaning.Half.TheVariants as half
+use Rattle.store.specs.declared.actor_store.Half.TheVariants as half
 use Rattle.model.specs.Composing.{Composition, brought_back, closed_slip, compose, composed, hand_in}
 use Rattle.model.specs.Models.{HubModel, Step, SwitchModel, change_switch, find_switch, hub_after, is_number}
 use Rattle.model.specs.Opening.{enrol}

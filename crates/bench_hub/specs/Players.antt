@@ -1,5 +1,5 @@
 -- A player, by what its hub and its store mean.
-use Rattle.store.specs.declared.meaning.ActorStore.{Ghosts}
+use Rattle.store.specs.declared.actor_store.ActorStore.{Ghosts}
 use Rattle.store.specs.Meaning.{Known}
 use Rattle.hub.specs.Memory.{hub_model}
 use Rattle.bench_hub.specs.declared.player.Player.{Player}

@@ -3,7 +3,7 @@ use Rattle.std.specs.Prelude.{ℕ, ◌%◌, List, take, Some, None, Ok, Err, Opt
 use Rattle.fault.specs.declared.CallFault.TheVariants.{NoSlip}
 use Rattle.fault.specs.declared.Fault.{Fault}
 use Rattle.fault.specs.declared.Fault.TheVariants as fault
-use Rattle.store.specs.declared.meaning.Half.TheVariants as half
+use Rattle.store.specs.declared.actor_store.Half.TheVariants as half
 use Rattle.model.specs.Composing.{compose, composed_bytes, sent, withheld}
 use Rattle.model.specs.Models.{HubModel, Step, answer_of, hub_after}
 use Rattle.model.specs.Opening.{enrol}

@@ -8,7 +8,7 @@ use crate::entries::entries_in;
 use crate::outcome::Outcome;
 use crate::telling::outcome_of;
 use hub::Hub;
-use store::meaning::ActorStore;
+use store::ActorStore;
 
 pub(crate) fn apply<S: ActorStore>(hub: &mut Hub<S>, call: Plain, body: &[u8]) -> Outcome
     ensures answer { result ≡ (applied (hub_model S.meaning hub.old) call body.now).0 }

@@ -13,7 +13,7 @@ use crate::outcome::{Outcome, Told, UNTOLD, low_word};
 use crate::player::Player;
 use crate::slips::{keep, place, spend};
 use hub::Composed;
-use store::meaning::ActorStore;
+use store::ActorStore;
 
 impl<S: ActorStore> Player<S> {
     // Composes into a buffer, and does with the slip as its fate says.

@@ -21,9 +21,9 @@ mod slips;
 mod stranger;
 mod telling;
 
-use image::block::Image;
+use image::Image;
 use opening::play;
-use store::table::Table;
+use store::Table;
 
 // Plays a script so many times on a hub over a table of the listed actors, and tells how many bytes of `out` hold
 // outcomes: that of the opening, and those of the last time.

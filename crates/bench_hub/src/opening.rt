@@ -11,7 +11,7 @@ use crate::player::Player;
 use fault::Fault;
 use hub::Hub;
 use model::Site;
-use store::meaning::ActorStore;
+use store::ActorStore;
 
 // The words of a play's hub.
 fn site(version: u16) -> Site

@@ -8,7 +8,7 @@ use crate::call::Fate;
 use crate::slips::spend;
 use crate::stranger::Stranger;
 use hub::{Hub, Slip};
-use store::meaning::ActorStore;
+use store::ActorStore;
 
 // A slip is not `Drop`, so neither is this: `finish` ends it, since the hub has the kept slip open.
 pub(crate) struct Player<S: ActorStore> {

@@ -7,7 +7,7 @@ use crate::call::Call;
 use crate::head::next_call;
 use crate::outcome::OUTCOME_LEN;
 use crate::player::Player;
-use store::meaning::ActorStore;
+use store::ActorStore;
 
 // What a buffer holds before a packet is composed into it.
 const UNWRITTEN: u8 = 0xA5;

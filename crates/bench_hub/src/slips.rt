@@ -7,7 +7,7 @@ ghost use Rattle.bench_hub.specs.Playing.{handed_in, placed, scene};
 use crate::call::Fate;
 use hub::{Hub, Slip};
 use std::mem;
-use store::meaning::ActorStore;
+use store::ActorStore;
 
 // Hands in a slip that the hub has open.
 pub(crate) fn spend<S: ActorStore>(hub: &mut Hub<S>, slip: Slip, fate: Fate)

@@ -10,7 +10,7 @@ use crate::call::Fate;
 use fault::Fault;
 use hub::{Hub, Slip};
 use model::Site;
-use store::table::Table;
+use store::Table;
 
 const SITE: Site = Site {
     version: 0x0200,

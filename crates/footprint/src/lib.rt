@@ -4,9 +4,9 @@
 ghost use Rattle.std.specs.Prelude.{◌≡◌, ◌<◌};
 
 use hub::Hub;
-use image::block::Image;
+use image::Image;
 use packet::PAYLOAD_MOST;
-use store::table::Table;
+use store::Table;
 
 // One buffer to receive into and one to send from, each for the longest payload.
 const BUFFERS: usize = 2 * PAYLOAD_MOST;

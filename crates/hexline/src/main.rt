@@ -13,8 +13,7 @@ use model::{Arrival, Site};
 use packet::PAYLOAD_MOST;
 use std::io::Read;
 use std::{fmt, io};
-use store::meaning::ActorStore;
-use store::table::Table;
+use store::{ActorStore, Table};
 
 const SITE: Site = Site {
     version: 0x0201,

@@ -12,8 +12,8 @@ use Rattle.packet.specs.declared.descriptor.Descriptor.{Descriptor}
 use Rattle.packet.specs.Messages.{understood}
 use Rattle.packet.specs.Reading.{messages_from}
 use Rattle.packet.specs.Words.{descriptor_of}
-use Rattle.store.specs.declared.meaning.Half.{Half}
-use Rattle.store.specs.declared.meaning.Half.TheVariants.{Target}
+use Rattle.store.specs.declared.actor_store.Half.{Half}
+use Rattle.store.specs.declared.actor_store.Half.TheVariants.{Target}
 use Rattle.store.specs.Meaning.{put_answer}
 use Rattle.model.specs.declared.told.Arrival.{Arrival}
 use Rattle.model.specs.declared.told.Arrival.TheVariants as arrival

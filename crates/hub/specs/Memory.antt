@@ -2,7 +2,7 @@
 use Rattle.std.specs.Prelude.{Ok, Err, Result}
 use Rattle.fault.specs.declared.Fault.{Fault}
 use Rattle.model.specs.Models.{HubModel}
-use Rattle.store.specs.declared.meaning.ActorStore.{Ghosts}
+use Rattle.store.specs.declared.actor_store.ActorStore.{Ghosts}
 use Rattle.store.specs.Meaning.{Known}
 use Rattle.hub.specs.declared.memory.Hub.{Hub}
 

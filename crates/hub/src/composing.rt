@@ -10,7 +10,7 @@ use crate::slip::Slip;
 use crate::writing::write_packet;
 use fault::{CallFault, Fault};
 use packet::{DESCRIPTOR_LEN, Descriptor};
-use store::meaning::ActorStore;
+use store::ActorStore;
 use switch::Switch;
 
 // The bytes of both values of an actor, and of a control word, with their heads.

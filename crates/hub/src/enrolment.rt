@@ -9,7 +9,7 @@ ghost use Rattle.switch.specs.Items.{repeats};
 
 use crate::memory::Hub;
 use fault::{CallFault, Fault, StoreFault};
-use store::meaning::ActorStore;
+use store::ActorStore;
 use switch::{MOST_ACTORS, Switch};
 
 // Checks entry by entry that each stands there once and is known to the store.

@@ -8,7 +8,7 @@ ghost use Rattle.hub.specs.Slips.{owed, slip_answer};
 use crate::memory::Hub;
 use crate::slip::Slip;
 use fault::{CallFault, Fault};
-use store::meaning::ActorStore;
+use store::ActorStore;
 
 impl<S: ActorStore> Hub<S> {
     // Whether this hub issued the slip and has not had it back.

@@ -4,7 +4,7 @@ ghost use Rattle.packet.specs.Words.{major};
 
 use arrayvec::ArrayVec;
 use model::Site;
-use store::meaning::ActorStore;
+use store::ActorStore;
 use switch::Switch;
 
 // How many switches a hub serves at most.

@@ -9,7 +9,7 @@ use arrayvec::ArrayVec;
 use fault::{Fault, FrameFault};
 use model::Site;
 use packet::MAJOR_VERSION;
-use store::meaning::ActorStore;
+use store::ActorStore;
 
 impl<S: ActorStore> Hub<S> {
     // A hub with no switch over the store; the store comes back where the version is not ours.

@@ -6,7 +6,7 @@ ghost use Rattle.hub.specs.Memory.{hub_model};
 use crate::memory::Hub;
 use fault::{ActorFault, Fault};
 use model::{KeyPress, Mark};
-use store::meaning::ActorStore;
+use store::ActorStore;
 
 impl<S: ActorStore> Hub<S> {
     // How a switch stands to an actor that it lists.

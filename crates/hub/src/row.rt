@@ -9,7 +9,7 @@ ghost use Rattle.hub.specs.Memory.{hub_model};
 use crate::changing::change_at;
 use crate::memory::Hub;
 use fault::{Fault, FrameFault};
-use store::meaning::ActorStore;
+use store::ActorStore;
 use switch::Switch;
 
 impl<S: ActorStore> Hub<S> {

@@ -2,13 +2,13 @@
 ghost use Rattle.std.specs.Prelude.{◌≡◌};
 ghost use Rattle.model.specs.Models.{answer_of, hub_after};
 ghost use Rattle.model.specs.Settings.{lawful_control, set_control, set_value};
-ghost use Rattle.store.specs.declared.meaning.Half.TheVariants.{Actual, Target};
+ghost use Rattle.store.specs.declared.actor_store.Half.TheVariants.{Actual, Target};
 ghost use Rattle.hub.specs.Memory.{hub_model};
 
 use crate::memory::Hub;
 use fault::{CallFault, Fault};
 use kind::CONTROL_BITS;
-use store::meaning::{ActorStore, Half};
+use store::{ActorStore, Half};
 
 // The bit that a control word must have.
 const CONTROL_MUST: u32 = 1 << 8;

@@ -10,7 +10,7 @@ use crate::memory::Hub;
 use fault::{ActorFault, Fault, FrameFault};
 use model::Arrival;
 use packet::{Cursor, Descriptor, Message, Record, Sort};
-use store::meaning::{ActorStore, Half};
+use store::{ActorStore, Half};
 use switch::Switch;
 
 // What the checking pass found: how many messages are understood, and where the first stands that is for an actor not listed.

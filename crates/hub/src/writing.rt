@@ -15,7 +15,7 @@ ghost use Rattle.hub.specs.Writing.{Began, Finished, HasRoom, Wrote};
 
 use model::{Item, Mark};
 use packet::{Descriptor, Draft, Record};
-use store::meaning::ActorStore;
+use store::ActorStore;
 use switch::Switch;
 
 // Adds a record for which there is room.

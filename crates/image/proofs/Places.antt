@@ -4,8 +4,8 @@ use lib.Seq.{take-set-lt}
 use mir.Facts.{Fits-of_z}
 use Rattle.std.proofs.lemmas.Bool.{eqb-true, eqb-false, cases_order, cases_eq, and_from, true≢false}
 use Rattle.store.specs.Meaning.{lawful, lawful_pair, replaced}
-use Rattle.store.specs.declared.meaning.Half.{Half}
-use Rattle.store.specs.declared.meaning.Half.TheVariants.{Actual, Target}
+use Rattle.store.specs.declared.actor_store.Half.{Half}
+use Rattle.store.specs.declared.actor_store.Half.TheVariants.{Actual, Target}
 use Rattle.store.proofs.Meanings.{lawful_replaced}
 use Rattle.kind.specs.Layout.{word}
 use Rattle.image.specs.Layout.{signed_at, page_count, length_of, place_of, pair_at, has_actor, actors_of, lawful_frame, lawful_values, lawful_block, block_in, written}

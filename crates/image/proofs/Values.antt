@@ -4,7 +4,7 @@ use Rattle.std.proofs.Common.{sym, ap, ◌∙◌, MatchBool, arith}
 use Rattle.std.proofs.lemmas.List.{get_or_append_left, get_or-take, take_at}
 use Rattle.std.proofs.lemmas.Bool.{and_parts, and_from, leb-true, eqb-true, true≢false}
 use Rattle.store.specs.Meaning.{lawful_pair}
-use Rattle.store.specs.declared.meaning.Half.TheVariants.{Target}
+use Rattle.store.specs.declared.actor_store.Half.TheVariants.{Target}
 use Rattle.kind.specs.Layout.{word}
 use Rattle.image.specs.Layout.{page_count, right_frame, right_count, right_length, length_of, place_of, pair_at, lawful_values, lawful_frame, block_in}
 use Rattle.image.specs.LawfulValues.{value_lawful}

@@ -7,8 +7,8 @@ use Rattle.fault.specs.declared.Fault.TheVariants.{Store}
 use Rattle.fault.specs.declared.StoreFault.TheVariants as store
 use Rattle.kind.specs.Layout.{word}
 use Rattle.store.specs.Meaning.{Known, lawful_pair, put_answer, unknown_actor}
-use Rattle.store.specs.declared.meaning.Half.{Half}
-use Rattle.store.specs.declared.meaning.Half.TheVariants.{Actual, Target}
+use Rattle.store.specs.declared.actor_store.Half.{Half}
+use Rattle.store.specs.declared.actor_store.Half.TheVariants.{Actual, Target}
 
 -- the signed word at a place
 abbrev pub signed_at : List ℕ → ℕ → ℤ

@@ -3,7 +3,7 @@ ghost use Rattle.std.specs.Prelude.{◌≡◌, ◌+◌, ◌<◌, ◌≤◌, leng
 ghost use Rattle.image.specs.Layout.{Holds, length_of, pair_at, place_of, written};
 ghost use Rattle.kind.specs.Layout.{word};
 
-use store::meaning::Half;
+use store::Half;
 
 // The length of a block.
 pub(crate) fn length_of(pages: u8) -> usize

@@ -4,7 +4,7 @@ use Rattle.packet.specs.declared.message.Record.TheVariants.{Control, EditValue,
 use Rattle.packet.specs.declared.descriptor.Descriptor.{Descriptor}
 use Rattle.packet.specs.Messages.{messages_of}
 use Rattle.packet.specs.Packets.{packet_bytes}
-use Rattle.store.specs.declared.meaning.Half.TheVariants.{Target}
+use Rattle.store.specs.declared.actor_store.Half.TheVariants.{Target}
 use Rattle.store.specs.Meaning.{Known}
 use Rattle.model.specs.declared.told.Site.{Site}
 use Rattle.model.specs.Composing.{item_records, outstanding_actors}

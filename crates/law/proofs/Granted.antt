@@ -9,7 +9,7 @@ use Rattle.fault.specs.declared.CallFault.TheVariants.{NoSlip, NothingOutstandin
 use Rattle.fault.specs.declared.Fault.{Fault}
 use Rattle.fault.specs.declared.Fault.TheVariants as fault
 use Rattle.packet.proofs.Spelling.{past, same_answer}
-use Rattle.store.specs.declared.meaning.Half.{Half}
+use Rattle.store.specs.declared.actor_store.Half.{Half}
 use Rattle.store.specs.Meaning.{Known, put_answer}
 use Rattle.store.specs.Lists.{lists}
 use Rattle.model.specs.Composing.{Composition, brought_back, closed_slip, compose, compose_for, composed, composed_bytes, composition_for, hand_in, has_outstanding, packet_for, packet_over, sent, withheld}

@@ -1,8 +1,8 @@
 -- What a store holds after a put.
 use Rattle.std.proofs.Common.{◌≡◌, ℕ, Bool, true, false, cond, ◌&&◌, eqb, ltb, List, ◌∷◌, ℤ, pos, negsuc, is_some, Some, None, Ok, Option, sym, refl, ap, ◌∙◌, subst, ap₂, arith, w16, SFits}
 use Rattle.std.proofs.lemmas.Bool.{and_parts, cond_both, eq-eqb, eqb-false, eqb-true, ltb-false, ne_eqb, not_from_false, not-true}
-use Rattle.store.specs.declared.meaning.Half.{Half}
-use Rattle.store.specs.declared.meaning.Half.TheVariants.{Actual, Target}
+use Rattle.store.specs.declared.actor_store.Half.{Half}
+use Rattle.store.specs.declared.actor_store.Half.TheVariants.{Actual, Target}
 use Rattle.store.specs.Meaning.{Known, after_put, forbidden, lawful, lawful_pair, pair_after, put_answer, refusal, replaced}
 use Rattle.store.proofs.Meanings.{lawful_replaced}
 use Rattle.model.specs.Composing.{values_of}

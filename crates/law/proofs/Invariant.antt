@@ -3,7 +3,7 @@ use Rattle.std.proofs.Common.{◌≡◌, ℕ, suc, ◌%◌, ◌^◌, ◌<◌, �
 use Rattle.std.specs.List.{AllByRecursion}
 use Rattle.packet.specs.declared.message.Message.{Message}
 use Rattle.packet.specs.declared.descriptor.Descriptor.{Descriptor}
-use Rattle.store.specs.declared.meaning.Half.{Half}
+use Rattle.store.specs.declared.actor_store.Half.{Half}
 use Rattle.store.specs.Meaning.{Known}
 use Rattle.model.specs.declared.item.Item.{Item}
 use Rattle.model.specs.declared.mark.Mark.{Mark}

@@ -2,7 +2,7 @@
 use Rattle.std.proofs.Common.{◌≡◌, ℕ, Bool, true, false, cond, eqb, List, [], ◌∷◌, map, ℤ, Option, sym, refl, ap, ◌∙◌, subst, ⊎_elim}
 use Rattle.std.specs.List.{AllByRecursion}
 use Rattle.std.proofs.lemmas.Bool.{eq-eqb, eqb-false, eqb-true, or_cases, or_left, or_right, true≢false}
-use Rattle.store.specs.declared.meaning.Half.{Half}
+use Rattle.store.specs.declared.actor_store.Half.{Half}
 use Rattle.store.specs.Meaning.{Known, after_put}
 use Rattle.model.specs.declared.item.Item.{Item}
 use Rattle.model.specs.declared.mark.Change.{Change}

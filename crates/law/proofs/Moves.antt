@@ -7,8 +7,8 @@ use Rattle.packet.specs.declared.message.Message.{Message}
 use Rattle.packet.specs.declared.descriptor.Descriptor.{Descriptor}
 use Rattle.packet.specs.Drafts.{WordsFit}
 use Rattle.packet.specs.Words.{major}
-use Rattle.store.specs.declared.meaning.Half.{Half}
-use Rattle.store.specs.declared.meaning.Half.TheVariants.{Target}
+use Rattle.store.specs.declared.actor_store.Half.{Half}
+use Rattle.store.specs.declared.actor_store.Half.TheVariants.{Target}
 use Rattle.store.specs.Meaning.{Known, put_answer}
 use Rattle.model.specs.declared.mark.Mark.TheVariants.{Due}
 use Rattle.model.specs.declared.told.Arrival.{Arrival}

@@ -7,7 +7,7 @@ use Rattle.packet.specs.declared.message.Message.{Message}
 use Rattle.packet.specs.declared.message.Message.TheVariants as message
 use Rattle.packet.specs.declared.message.Record.{Record}
 use Rattle.packet.specs.declared.message.Record.TheVariants.{State, Control, EditValue, RealValue, Event, Temperature}
-use Rattle.store.specs.declared.meaning.Half.TheVariants.{Target}
+use Rattle.store.specs.declared.actor_store.Half.TheVariants.{Target}
 use Rattle.store.specs.Meaning.{forbidden, refusal}
 use Rattle.model.specs.declared.item.Item.{Item}
 use Rattle.model.specs.declared.mark.Change.TheVariants.{Changed}

@@ -6,7 +6,7 @@ use Rattle.std.proofs.lemmas.Bool.{eq-eqb, eqb-false, eqb-true, ne_eqb, or_from}
 use Rattle.packet.specs.declared.message.Message.{Message}
 use Rattle.packet.specs.declared.descriptor.Descriptor.{Descriptor}
 use Rattle.packet.specs.Words.{major}
-use Rattle.store.specs.declared.meaning.Half.{Half}
+use Rattle.store.specs.declared.actor_store.Half.{Half}
 use Rattle.store.specs.Meaning as store
 use Rattle.model.specs.declared.item.Item.{Item}
 use Rattle.model.specs.declared.mark.Change.TheVariants.{Answered, Composed}

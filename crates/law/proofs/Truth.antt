@@ -4,7 +4,7 @@ use Rattle.std.specs.List.{AllByRecursion}
 use Rattle.std.specs.Option.{ok_or}
 use Rattle.std.proofs.lemmas.Bool.{eqb-true, true≢false}
 use Rattle.packet.specs.Words.{major}
-use Rattle.store.specs.declared.meaning.Half.TheVariants.{Actual, Target}
+use Rattle.store.specs.declared.actor_store.Half.TheVariants.{Actual, Target}
 use Rattle.store.specs.Meaning as store
 use Rattle.model.specs.declared.item.Item.{Item}
 use Rattle.model.specs.declared.mark.Mark.{Mark}

@@ -10,7 +10,7 @@ use Rattle.packet.specs.Drafts.{WordsFit, laid_out, length_of, masked}
 use Rattle.packet.specs.Packets.{record_bytes}
 use Rattle.packet.specs.Words.{major}
 use Rattle.packet.proofs.Packets.{Written, packet_reads}
-use Rattle.store.specs.declared.meaning.Half.TheVariants.{Actual, Target}
+use Rattle.store.specs.declared.actor_store.Half.TheVariants.{Actual, Target}
 use Rattle.store.specs.Meaning.{Known}
 use Rattle.model.specs.declared.item.Item.{Item}
 use Rattle.model.specs.Composing.{actor_records, item_records, packet_for, records_for, values_of, words_for}

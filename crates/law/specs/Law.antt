@@ -2,7 +2,7 @@
 use Rattle.std.specs.Prelude.{◌≡◌, ℕ, ◌+◌, ◌<◌, true, false, ◌⊎◌, List, [], ◌∷◌, ◌++◌, take, Some, None, Ok}
 use Rattle.packet.specs.declared.message.Message.{Message}
 use Rattle.packet.specs.declared.descriptor.Descriptor.{Descriptor}
-use Rattle.store.specs.declared.meaning.Half.TheVariants.{Actual, Target}
+use Rattle.store.specs.declared.actor_store.Half.TheVariants.{Actual, Target}
 use Rattle.store.specs.Meaning as store
 use Rattle.model.specs.declared.mark.Mark.{Mark}
 use Rattle.model.specs.declared.told.Arrival.{Arrival}

@@ -8,8 +8,8 @@ use Rattle.packet.specs.declared.message.Record.{Record}
 use Rattle.packet.specs.declared.message.Record.TheVariants.{State, Control, EditValue, RealValue, Event, Temperature}
 use Rattle.packet.specs.declared.descriptor.Descriptor.{Descriptor}
 use Rattle.packet.specs.Reading.{reading_of}
-use Rattle.store.specs.declared.meaning.Half.{Half}
-use Rattle.store.specs.declared.meaning.Half.TheVariants.{Actual, Target}
+use Rattle.store.specs.declared.actor_store.Half.{Half}
+use Rattle.store.specs.declared.actor_store.Half.TheVariants.{Actual, Target}
 use Rattle.store.specs.Meaning as store
 use Rattle.store.specs.Meaning.{lawful}
 use Rattle.model.specs.Composing.{values_of}

@@ -6,8 +6,8 @@ use Rattle.packet.specs.declared.message.Message.{Message}
 use Rattle.packet.specs.declared.message.Message.TheVariants.{Known}
 use Rattle.packet.specs.declared.message.Record.TheVariants.{EditValue}
 use Rattle.packet.specs.declared.descriptor.Descriptor.{Descriptor}
-use Rattle.store.specs.declared.meaning.Half.{Half}
-use Rattle.store.specs.declared.meaning.Half.TheVariants.{Target}
+use Rattle.store.specs.declared.actor_store.Half.{Half}
+use Rattle.store.specs.declared.actor_store.Half.TheVariants.{Target}
 use Rattle.store.specs.Meaning as store
 use Rattle.store.specs.Meaning.{lawful}
 use Rattle.model.specs.declared.told.Arrival.{Arrival}

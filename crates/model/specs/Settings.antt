@@ -4,7 +4,7 @@ use Rattle.fault.specs.declared.CallFault.TheVariants.{ControlWord}
 use Rattle.fault.specs.declared.Fault.{Fault}
 use Rattle.fault.specs.declared.Fault.TheVariants.{Call, Frame}
 use Rattle.fault.specs.declared.FrameFault.TheVariants.{Switch}
-use Rattle.store.specs.declared.meaning.Half.{Half}
+use Rattle.store.specs.declared.actor_store.Half.{Half}
 use Rattle.store.specs.Meaning.{after_put, put_answer}
 use Rattle.model.specs.Models.{HubModel, Step, SwitchModel, change_switch, find_switch, touched, with_control}
 

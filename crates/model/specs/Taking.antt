@@ -13,7 +13,7 @@ use Rattle.packet.specs.declared.descriptor.Descriptor.{Descriptor}
 use Rattle.packet.specs.Messages.{understood}
 use Rattle.packet.specs.Reading.{messages_from}
 use Rattle.packet.specs.Words.{descriptor_of}
-use Rattle.store.specs.declared.meaning.Half.TheVariants.{Target}
+use Rattle.store.specs.declared.actor_store.Half.TheVariants.{Target}
 use Rattle.model.specs.declared.item.Item.{Item}
 use Rattle.model.specs.declared.mark.Change.TheVariants.{Answered, Changed}
 use Rattle.model.specs.declared.told.Arrival.{Arrival}

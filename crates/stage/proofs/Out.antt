@@ -9,7 +9,7 @@ use Rattle.fault.specs.declared.Fault.TheVariants as fault
 use Rattle.fault.specs.declared.FrameFault.TheVariants.{MajorVersion}
 use Rattle.packet.proofs.Spelling.{same_answer}
 use Rattle.packet.specs.Words.{major}
-use Rattle.store.specs.declared.meaning.Half.{Half}
+use Rattle.store.specs.declared.actor_store.Half.{Half}
 use Rattle.store.specs.Meaning.{Known}
 use Rattle.model.specs.declared.told.Site.{Site}
 use Rattle.model.specs.Composing.{Composition, brought_back, closed_slip, compose, composed, hand_in}

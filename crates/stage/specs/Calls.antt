@@ -2,7 +2,7 @@
 use Rattle.std.specs.Prelude.{◌≡◌, ℕ, Bool, true, false, ◌⊎◌, List, [], ◌∷◌, length, min, Some, None, Err, Option, Result}
 use Rattle.fault.specs.declared.Fault.{Fault}
 use Rattle.hexadecimal.specs.Decoding.{Spells, decode_tells}
-use Rattle.store.specs.declared.meaning.Half.TheVariants.{Actual, Target}
+use Rattle.store.specs.declared.actor_store.Half.TheVariants.{Actual, Target}
 use Rattle.model.specs.Composing.{compose, withheld}
 use Rattle.model.specs.Models.{HubModel, hub_after}
 use Rattle.model.specs.Opening.{enrol}

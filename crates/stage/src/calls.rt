@@ -16,7 +16,7 @@ use hub::{Composed, Hub};
 use packet::PAYLOAD_MOST;
 use script::Call;
 use std::io;
-use store::meaning::ActorStore;
+use store::ActorStore;
 
 // Reads the payload that a text spells, and gives it to the hub.
 fn take<S: ActorStore>(hub: &mut Hub<S>, text: &[u8]) -> Result<Told, Fault>

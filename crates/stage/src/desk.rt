@@ -9,7 +9,7 @@ use crate::slips::{Fate, spend};
 use hub::{Hub, Slip};
 use std::alloc::Global;
 use std::io;
-use store::meaning::ActorStore;
+use store::ActorStore;
 
 // The slips lie in the order in which they were composed. A slip is not `Drop`, so neither is this:
 // `withhold_rest` ends it.

@@ -15,15 +15,14 @@ use desk::Desk;
 use fault::Fault;
 use hexadecimal::Lines;
 use hub::Hub;
-use image::block::Image;
+use image::Image;
 use model::Site;
 use packet::PAYLOAD_MOST;
 use script::{Call, Store};
 use std::alloc::Global;
 use std::io;
 use std::io::Read;
-use store::meaning::ActorStore;
-use store::table::Table;
+use store::{ActorStore, Table};
 use telling::tell_refusal;
 
 // Makes the calls of a script, up to its end.

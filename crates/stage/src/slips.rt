@@ -7,7 +7,7 @@ ghost use Rattle.stage.specs.Slips.{HoldsAll, handed_in, place_for};
 
 use hub::{Hub, Slip};
 use std::alloc::AllocError;
-use store::meaning::ActorStore;
+use store::ActorStore;
 
 // What became of a packet. A case and no closure: one definition, `handed_in`, says of it what the hub is then, for all that pass it on.
 #[derive(Clone, Copy, PartialEq, Eq, Debug)]

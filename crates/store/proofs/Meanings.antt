@@ -3,8 +3,8 @@ use Rattle.std.proofs.Common.{◌≡◌, ℕ, true, false, cond, eqb, ℤ, Some,
 use mathlib.Core.Path.{fun_ext}
 use Rattle.std.proofs.lemmas.Bool.{eqb-true, eq-eqb, cond_both, cond-true, cond-false, and_parts, and_from}
 use Rattle.store.specs.Meaning.{Known, pair_after, after_put, forbidden, lawful, lawful_pair, replaced}
-use Rattle.store.specs.declared.meaning.Half.{Half}
-use Rattle.store.specs.declared.meaning.Half.TheVariants.{Actual, Target}
+use Rattle.store.specs.declared.actor_store.Half.{Half}
+use Rattle.store.specs.declared.actor_store.Half.TheVariants.{Actual, Target}
 
 -- a lawful value in either half leaves a lawful pair
 pub lawful_replaced : (h : Half) (v : ℤ) (p : ℤ × ℤ) → lawful v ≡ true → lawful_pair (Some p) ≡ true → lawful_pair (Some (replaced h v p)) ≡ true

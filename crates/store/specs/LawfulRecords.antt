@@ -4,7 +4,7 @@ use Rattle.std.specs.List.{insert}
 use Rattle.std.proofs.lemmas.Bool.{and_parts, and_from, cond_both}
 use Rattle.store.specs.Meaning.{lawful_pair}
 use Rattle.store.specs.Records.{lookup, values, lawful_records}
-use Rattle.store.specs.declared.record.Record.{Record}
+use Rattle.store.specs.declared.table.Record.{Record}
 
 parts : (r : Record) (rs : List Record) → lawful_records (r ∷ rs) ≡ true → (lawful_pair (Some (values r)) ≡ true) × (lawful_records rs ≡ true)
 parts r rs h = and_parts (lawful_pair (Some (values r))) (lawful_records rs) h

@@ -4,8 +4,8 @@ use Rattle.std.specs.Option.{ok_or}
 use Rattle.fault.specs.declared.Fault.{Fault}
 use Rattle.fault.specs.declared.Fault.TheVariants.{Store}
 use Rattle.fault.specs.declared.StoreFault.TheVariants as store
-use Rattle.store.specs.declared.meaning.Half.{Half}
-use Rattle.store.specs.declared.meaning.Half.TheVariants.{Actual, Target}
+use Rattle.store.specs.declared.actor_store.Half.{Half}
+use Rattle.store.specs.declared.actor_store.Half.TheVariants.{Actual, Target}
 
 abbrev pub Known : Type 0
 Known = ℕ → Option (ℤ × ℤ)

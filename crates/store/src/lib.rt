@@ -1,12 +1,13 @@
 // Actor stores: what every store means, and the table, the store in memory.
 #![tactic(auto)]
 
-mod entering;
-pub mod meaning;
-pub mod opening;
+mod actor_store;
+mod table;
+mod value;
+
+pub use actor_store::{ActorStore, Half};
+pub use table::Table;
+
 pub mod readback;
-mod record;
-mod search;
-pub mod storing;
-pub mod table;
-pub mod value;
+
+pub use value::{check_value, is_forbidden};

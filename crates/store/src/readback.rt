@@ -2,7 +2,7 @@
 ghost use Rattle.std.specs.Prelude.{◌≡◌};
 ghost use Rattle.store.specs.Meaning.{after_put, read_back};
 
-use crate::meaning::{ActorStore, Half};
+use crate::actor_store::{ActorStore, Half};
 use fault::Fault;
 
 // Puts one value and answers the pair that the store then has, or the refusal.

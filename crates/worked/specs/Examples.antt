@@ -17,7 +17,7 @@ use Rattle.model.specs.Taking.{take_payload}
 use Rattle.packet.specs.declared.message.Message.TheVariants.{Known}
 use Rattle.packet.specs.declared.message.Record.TheVariants.{Temperature}
 use Rattle.packet.specs.Messages.{message_of}
-use Rattle.store.specs.declared.meaning.Half.TheVariants.{Actual, Target}
+use Rattle.store.specs.declared.actor_store.Half.TheVariants.{Actual, Target}
 use Rattle.store.specs.Lists.{zeros}
 use Rattle.store.specs.Meaning.{read_answer}
 

@@ -7,7 +7,7 @@ use Rattle.model.specs.Models.{HubModel, answer_of, hub_after}
 use Rattle.model.specs.Questions.{actor_mark, control_mark, flags_of, reading_at}
 use Rattle.model.specs.Settings.{set_control, set_value}
 use Rattle.model.specs.Taking.{take_payload}
-use Rattle.store.specs.declared.meaning.Half.TheVariants.{Actual}
+use Rattle.store.specs.declared.actor_store.Half.TheVariants.{Actual}
 use Rattle.store.specs.Meaning.{read_answer}
 use Rattle.worked.specs.Examples.{answered, awaited_at, away, event_of, packet, room, told, warm, written}
 

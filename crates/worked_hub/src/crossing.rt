@@ -5,7 +5,7 @@ use fault::Fault;
 use hub::Hub;
 use model::{Arrival, Mark};
 use std::test::Fail;
-use store::table::Table;
+use store::Table;
 
 // The plant raises a target while the switch's answer to the older one is on its way.
 #[test]

@@ -4,7 +4,7 @@ ghost use Rattle.std.specs.Prelude.{◌≡◌, ◌+◌, ◌<◌, ◌≤◌, leng
 use fault::Fault;
 use hub::Hub;
 use model::{Arrival, Mark, Site};
-use store::table::Table;
+use store::Table;
 
 pub(crate) const SITE: Site = Site {
     version: 0x0201,

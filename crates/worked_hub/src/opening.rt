@@ -4,8 +4,7 @@ use hub::Hub;
 use model::Site;
 use std::process::Abort;
 use std::test::Fail;
-use store::meaning::{ActorStore, Half};
-use store::table::Table;
+use store::{ActorStore, Half, Table};
 
 #[test]
 fn other_major_version(rt: HostRuntime) -> Result<(), Fail> {

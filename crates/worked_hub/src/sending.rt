@@ -1,7 +1,7 @@
 // Sending, as a program does it: a packet is composed, and its slip is handed in.
 use fault::Fault;
 use hub::{Composed, Hub};
-use store::meaning::ActorStore;
+use store::ActorStore;
 
 // The packet's length, how many actors it carries, and its number.
 pub(crate) fn send<S: ActorStore>(

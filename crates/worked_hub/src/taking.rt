@@ -6,7 +6,7 @@ use hub::Hub;
 use model::{Arrival, KeyPress, Mark};
 use std::process::Abort;
 use std::test::Fail;
-use store::table::Table;
+use store::Table;
 
 // An event of switch 8: EditValue, actor 2, target 215.
 const EDIT: [u8; 22] = [

@@ -6,12 +6,11 @@ ghost use Rattle.std.specs.Prelude.{◌≡◌, length};
 #[cfg(test)]
 mod tests {
     use fault::Fault;
-    use image::block::Image;
+    use image::Image;
     use std::process::Abort;
     use std::test::Fail;
-    use store::meaning::{ActorStore, Half};
     use store::readback::put_and_read;
-    use store::table::Table;
+    use store::{ActorStore, Half, Table};
 
     // An answer with number and place of its refusal. worked_hub has the like of it: a crate of their own for two lines would be no plainer.
     fn told<T>(answer: Result<T, Fault>) -> Result<T, (u8, usize)> {

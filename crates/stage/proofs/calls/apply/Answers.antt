@@ -1,5 +1,5 @@
 use Rattle.std.proofs.Common.{w16, to_z, of_z}
-use Rattle.store.specs.declared.meaning.Half.TheVariants.{Actual, Target}
+use Rattle.store.specs.declared.actor_store.Half.TheVariants.{Actual, Target}
 use Rattle.hub.specs.Memory.{hub_model}
 use Rattle.stage.proofs.Out.{same_control, same_enrol, same_value}
 use Rattle.stage.proofs.calls.apply.Goals as goal

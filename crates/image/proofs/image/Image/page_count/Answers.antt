@@ -2,7 +2,7 @@ use Rattle.std.proofs.Common.{refl, arith}
 use Rattle.image.specs.Layout.{block_in}
 use Rattle.image.specs.LawfulValues.{block_parts}
 use Rattle.image.proofs.Values.{count_in, framed}
-use Rattle.image.proofs.block.Image.page_count.Goals as goal
+use Rattle.image.proofs.image.Image.page_count.Goals as goal
 
 pub returns : goal.returns
 returns c =

@@ -5,7 +5,7 @@ use Rattle.image.specs.Layout.{actors_of, pair_at, place_of, block_in, lawful_bl
 use Rattle.image.specs.LawfulValues.{block_parts}
 use Rattle.image.proofs.Values.{framed}
 use Rattle.image.proofs.Places.{value_put, lawful_after, actors_after}
-use Rattle.image.proofs.block.Image.write.Goals as goal
+use Rattle.image.proofs.image.Image.write.Goals as goal
 
 pub invariant_of-self : goal.invariant_of-self
 invariant_of-self c =

@@ -2,7 +2,7 @@ use Rattle.std.proofs.Common.{◌≡◌, ap, ◌∙◌}
 use Rattle.image.specs.Layout.{block_in, lawful_block}
 use Rattle.image.specs.LawfulValues.{block_parts}
 use Rattle.image.proofs.Values.{at_front}
-use Rattle.image.proofs.opening.keep.Goals as goal
+use Rattle.image.proofs.image.Image.keep.Goals as goal
 
 pub invariant_of-result : goal.invariant_of-result
 invariant_of-result c =

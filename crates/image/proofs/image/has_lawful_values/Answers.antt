@@ -3,7 +3,7 @@ use Rattle.store.specs.Meaning.{lawful_pair}
 use Rattle.image.specs.Layout.{page_count, pair_at}
 use Rattle.image.proofs.Values.{told_of_each}
 use Rattle.image.proofs.Counting.{counted}
-use Rattle.image.proofs.opening.has_lawful_values.Goals as goal
+use Rattle.image.proofs.image.has_lawful_values.Goals as goal
 
 pub returns : goal.returns
 returns c =
