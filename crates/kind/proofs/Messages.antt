@@ -1,24 +1,40 @@
 -- One message, read and written, for every lawful kind.
-use Rattle.std.proofs.Common.{◌≡◌, ℕ, ◌+◌, ◌-◌, ◌/◌, ◌%◌, ◌^◌, ◌<◌, ◌≤◌, true, List, [], ◌∷◌, ◌++◌, length, get_or, take, drop, Ok, refl, ap, ◌∙◌, ap₂, arith}
+use Rattle.std.proofs.Common.{◌≡◌, ℕ, ◌+◌, ◌-◌, ◌/◌, ◌%◌, ◌^◌, ◌<◌, ◌≤◌, true, false, List, [], ◌∷◌, ◌++◌, length, get_or, take, drop, Some, None, Ok, refl, ap, ◌∙◌, ap₂, arith}
 use Rattle.std.proofs.lemmas.List.{take-take, take_at, drop-drop, length-append}
-use Rattle.std.proofs.lemmas.Bool.{le-ltb, eq-eqb}
+use Rattle.std.proofs.lemmas.Bool.{eq-eqb, le-ltb, ne_eqb, or_from}
 use borrow.Rule.Slice.PartMut.{put_mid, post_of}
-use Rattle.kind.specs.Layout.{Layout, Lawful, ReadsBack, word, read_of, message_of, padded}
+use Rattle.kind.specs.Layout.{Distinct, Layout, Lawful, ReadsBack, Whole, broken, word, read_of, message_of, padded}
 use Rattle.kind.specs.Words.{word_round}
 
+pub not_broken : (s : List ℕ) → Whole s → broken s ≡ false
+not_broken s whole = or_from _ _ (le-ltb (length s) 4 whole.0) (or_from _ _ (le-ltb (get_or s 0 0) 4 whole.1) (le-ltb (length s) (get_or s 0 0) whole.2))
+
 -- what the reader answers once its checks have passed
-pub accepted : {R : Type 0} (k : Layout R) (s : List ℕ) (place : ℕ) → 4 ≤ length s → 4 ≤ get_or s 0 0 → get_or s 0 0 ≤ length s → get_or s 0 0 ≡ k.size
-    → k.admits (word s 2) ≡ true → read_of k s place ≡ Ok (word s 2, k.decode (take (k.size - 4) (drop 4 s)))
-accepted k s place four least whole same admitted =
-    let a = le-ltb (length s) 4 four in
-    let b = le-ltb (get_or s 0 0) 4 least in
-    let d = le-ltb (length s) (get_or s 0 0) whole in
+pub accepted : {R : Type 0} (k : Layout R) (s : List ℕ) (place : ℕ) → Whole s → get_or s 1 0 ≡ k.ident → get_or s 0 0 ≡ k.size
+    → k.admits (word s 2) ≡ true → read_of k s place ≡ Ok (Some (word s 2, k.decode (take (k.size - 4) (drop 4 s))))
+accepted k s place whole id same admitted =
+    let w = not_broken s whole in
+    let i = eq-eqb (get_or s 1 0) k.ident id in
     let e = eq-eqb (get_or s 0 0) k.size same in
-    simp (a, b, d, e, admitted)
+    simp (w, i, e, admitted)
+
+-- and where the message has another MessageID
+pub passed_over : {R : Type 0} (k : Layout R) (s : List ℕ) (place : ℕ) → Whole s → (get_or s 1 0 ≡ k.ident → ⊥) → read_of k s place ≡ Ok None
+passed_over k s place whole other =
+    let w = not_broken s whole in
+    let i = ne_eqb (get_or s 1 0) k.ident other in
+    simp (w, i)
 
 -- the data's own bytes, out of the four that hold them
 data_bytes : (s : List ℕ) (n : ℕ) → length s ≡ n → n ≤ 4 → take n (padded s) ≡ s
 data_bytes s n e h = take-take n 4 (s ++ (0 ∷ 0 ∷ 0 ∷ 0 ∷ [])) h ∙ take_at s (0 ∷ 0 ∷ 0 ∷ 0 ∷ []) n e
+
+-- what is written is whole, whatever follows it
+pub whole_written : {R : Type 0} (k : Layout R) → Lawful k → (actor : ℕ) (r : R) (rest : List ℕ) → Whole (message_of k actor r ++ rest)
+whole_written k laws actor r rest =
+    let long = laws.long r in
+    let sized : length (message_of k actor r ++ rest) ≡ 4 + length (k.encode r) + length rest = simp length-append (omega arith) in
+    (omega (arith, laws.least), laws.least, omega (arith, laws.least))
 
 module _ {R : Type 0} (k : Layout R) (laws : Lawful k) (actor : ℕ) (r : R) where
   -- the four bytes of the head, and then the data, laid over a buffer's front
@@ -37,9 +53,12 @@ module _ {R : Type 0} (k : Layout R) (laws : Lawful k) (actor : ℕ) (r : R) whe
   reads_back rest small admitted fit place =
       let s : List ℕ = message_of k actor r ++ rest in
       let long = laws.long r in
-      let sized : length s ≡ 4 + length (k.encode r) + length rest = simp length-append (omega arith) in
       let same : word s 2 ≡ actor = word_round actor small in
       let content : take (k.size - 4) (k.encode r ++ rest) ≡ k.encode r = take_at (k.encode r) rest (k.size - 4) (omega arith) in
-      let read = accepted k s place (omega (arith, laws.least)) laws.least (omega (arith, laws.least)) refl (ap k.admits same ∙ admitted) in
+      let read = accepted k s place (whole_written k laws actor r rest) refl refl (ap k.admits same ∙ admitted) in
       let back = ap k.decode content ∙ laws.round r fit in
-      read ∙ ap₂ (λ a v. Ok (a, v)) same back
+      read ∙ ap₂ (λ a v. Ok (Some (a, v))) same back
+
+-- what is written as one kind is none of a kind with another MessageID
+pub distinct : {R S : Type 0} (k : Layout R) (l : Layout S) → Lawful k → Distinct k l
+distinct k l laws other actor r rest place = passed_over l (message_of k actor r ++ rest) place (whole_written k laws actor r rest) other

@@ -1,5 +1,5 @@
 -- What a kind of message means, and how one message of it is read and written.
-use Rattle.std.specs.Prelude.{◌≡◌, ℕ, ◌+◌, ◌-◌, ◌*◌, ◌/◌, ◌%◌, ◌<◌, ◌≤◌, Bool, cond, not, ◌||◌, List, [], ◌∷◌, ◌++◌, length, take, drop, Some, None, Ok, Err, Option, Result, ◌==◌, nat_lt, slice_index}
+use Rattle.std.specs.Prelude.{◌≡◌, ℕ, ◌+◌, ◌-◌, ◌*◌, ◌/◌, ◌%◌, ◌<◌, ◌≤◌, Bool, cond, not, ◌||◌, List, [], ◌∷◌, ◌++◌, length, take, drop, Some, None, Ok, Err, Option, Result, ◌==◌, ◌≢◌, nat_lt, slice_index}
 use Rattle.fault.specs.declared.MessageFault.TheVariants.{Broken, KindLength, ActorRule}
 use Rattle.fault.specs.declared.CallFault.TheVariants.{ShortBuffer}
 use Rattle.fault.specs.declared.Fault.{Fault}
@@ -55,13 +55,19 @@ padded s = take 4 (s ++ (0 ∷ 0 ∷ 0 ∷ 0 ∷ []))
 abbrev pub broken : List ℕ → Bool
 broken s = nat_lt (length s) 4 || (nat_lt (slice_index s 0) 4 || nat_lt (length s) (slice_index s 0))
 
--- The actor and the record of the message that begins s, which stands at a place in its payload.
-abbrev pub read_of : {R : Type 0} → Layout R → List ℕ → ℕ → Result (ℕ × R) Fault
+-- What the reader of a kind makes of the message that begins s, which stands at a place in its payload: its actor and its record, nothing where the
+-- message has another MessageID, or the first check that fails.
+abbrev pub read_of : {R : Type 0} → Layout R → List ℕ → ℕ → Result (Option (ℕ × R)) Fault
 read_of k s place =
     cond (broken s) (Err (Message Broken place))
+    (cond (not (slice_index s 1 == k.ident)) (Ok None)
     (cond (not (slice_index s 0 == k.size)) (Err (Message KindLength place))
     (cond (not (k.admits (word s 2))) (Err (Message ActorRule place))
-    (Ok (word s 2, k.decode (take (k.size - 4) (drop 4 s))))))
+    (Ok (Some (word s 2, k.decode (take (k.size - 4) (drop 4 s))))))))
+
+-- A whole message begins s, with its head, and with the length that the head tells.
+abbrev pub Whole : List ℕ → Type 0
+Whole s = (4 ≤ length s) × (4 ≤ slice_index s 0) × (slice_index s 0 ≤ length s)
 
 -- The bytes of a message: MessageLength, MessageID, ActorID, data.
 abbrev pub message_of : {R : Type 0} → Layout R → ℕ → R → List ℕ
@@ -82,4 +88,8 @@ written_of k actor r out =
 
 -- The message at the front of s is read as this actor and this record, masked, wherever it stands.
 abbrev pub ReadsBack : {R : Type 0} → Layout R → ℕ → R → List ℕ → Type 0
-ReadsBack k actor r s = k.Fits r → (place : ℕ) → read_of k s place ≡ Ok (actor, k.masked r)
+ReadsBack k actor r s = k.Fits r → (place : ℕ) → read_of k s place ≡ Ok (Some (actor, k.masked r))
+
+-- A message of the first kind, whatever follows it, is none of the second, unless they share their MessageID.
+abbrev pub Distinct : {R S : Type 0} → Layout R → Layout S → Type 0
+Distinct {R} k l = (k.ident ≢ l.ident) → (actor : ℕ) (r : R) (rest : List ℕ) (place : ℕ) → read_of l (message_of k actor r ++ rest) place ≡ Ok None

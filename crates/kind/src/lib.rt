@@ -12,7 +12,7 @@ mod value;
 
 pub use event::Event;
 pub use flags::{CONTROL_BITS, CONTROL_ID, Control, Flags, STATE_ID, State, asks_init};
-pub use message::{Kind, read, write};
+pub use message::{Kind, kinds_are_distinct, read, write};
 pub use temperature::Temperature;
 pub use value::{EDIT_VALUE_ID, EditValue, REAL_VALUE_ID, RealValue, Value};
 

@@ -1,6 +1,6 @@
 // One message: its head, its actor and its record, for every kind alike.
 ghost use Rattle.std.specs.Prelude.{◌≡◌, ℕ, ◌+◌, ◌-◌, ◌*◌, ◌/◌, ◌%◌, ◌^◌, ◌<◌, ◌≤◌, true, List, [], ◌∷◌, ◌++◌, length, drop, OnOk, slice_range};
-ghost use Rattle.kind.specs.Layout.{Layout, Lawful, ReadsBack, data_of, message_of, padded, read_of, write_of, written_of};
+ghost use Rattle.kind.specs.Layout.{Distinct, Layout, Lawful, ReadsBack, data_of, message_of, padded, read_of, write_of, written_of, Whole};
 
 use fault::{CallFault, Fault, MessageFault};
 
@@ -41,25 +41,31 @@ pub trait Kind {
     ghost lawful: { Lawful layout };
 }
 
-// Reads the message that begins `bytes` as one of kind K. `bytes` is what is left of a payload, from `place` on.
-pub fn read<K: Kind>(bytes: &[u8], place: usize) -> Result<(u16, K::Record), Fault>
-    ensures { result ≡ read_of K.layout bytes.now place }
+/// Reads the message that begins `bytes` as one of kind K: its actor and its record, or `None` where it has another MessageID.
+/// `bytes` is what is left of a payload, from `place` on, and each refusal is told at that place: 7 where no whole message begins there, 8 where the message
+/// has the kind's MessageID and another MessageLength, 9 where the kind does not admit its actor.
+pub fn read<K: Kind>(bytes: &[u8], place: usize) -> Result<Option<(u16, K::Record)>, Fault>
+    ensures answer { result ≡ read_of K.layout bytes.now place }
+    ensures whole { OnOk result (Whole bytes.now) }
 {
-    let &[len, _id, lo, hi, ref rest @ ..] = bytes else {
+    let [len, id, lo, hi, rest @ ..] = bytes else {
         return Err(Fault::Message(MessageFault::Broken, place));
     };
-    if len < 4 || len as usize > bytes.len() {
+    if *len < 4 || *len as usize > bytes.len() {
         return Err(Fault::Message(MessageFault::Broken, place));
     }
-    if len != K::LEN {
+    if *id != K::ID {
+        return Ok(None);
+    }
+    if *len != K::LEN {
         return Err(Fault::Message(MessageFault::KindLength, place));
     }
-    let actor = u16::from_le_bytes([lo, hi]);
+    let actor = u16::from_le_bytes([*lo, *hi]);
     if !K::admits(actor) {
         return Err(Fault::Message(MessageFault::ActorRule, place));
     }
     let record = K::decode(&rest[..K::LEN as usize - 4]).unwrap();
-    Ok((actor, record))
+    Ok(Some((actor, record)))
 }
 
 // Lays the message over the front of `out`, which has room for it.
@@ -92,3 +98,9 @@ pub fn write<K: Kind>(out: &mut [u8], actor: u16, record: K::Record) -> Result<u
     lay::<K>(out, actor, record);
     Ok(size)
 }
+
+/// Nothing runs here: it states that a message written as one kind is none of a kind with another MessageID.
+#[tactic(auto, using(crate::proofs::Messages::distinct))]
+pub fn kinds_are_distinct<K: Kind, L: Kind>()
+    ensures { Distinct K.layout L.layout }
+{}

@@ -1,14 +1,16 @@
 -- A closed draft's packet reads back as its words and its records.
-use Rattle.std.proofs.Common.{◌≡◌, ℕ, ◌+◌, ◌^◌, ◌<◌, ◌≤◌, true, false, not, eqb, ltb, List, [], ◌∷◌, ◌++◌, length, get_or, take, drop, Some, None, Ok, sym, refl, ap, ◌∙◌, ap₂, arith}
+use Rattle.std.proofs.Common.{◌≡◌, ℕ, ◌+◌, ◌^◌, ◌<◌, ◌≤◌, true, false, not, eqb, ltb, List, [], ◌∷◌, ◌++◌, length, get_or, take, drop, Some, None, Ok, Result, sym, refl, ap, ◌∙◌, ap₂, arith}
 use Rattle.std.proofs.lemmas.List.{append_assoc, drop_at, flat_map_more, length-append, length-drop, length-take, length-take-le, take-append-drop, take_at}
 use Rattle.std.proofs.lemmas.Bool.{cond-false, eqb-true, ltb-false, not-false, or_parts}
 use Rattle.std.specs.List.{flat_map}
 use Rattle.kind.specs.Kinds.{control, edit_value, event, real_value, state, temperature}
-use Rattle.kind.specs.Layout.{Layout, Lawful, broken, message_of, read_of, word_bytes}
+use Rattle.kind.specs.Layout.{Layout, Lawful, message_of, read_of, word_bytes}
 use Rattle.kind.specs.Laws.{control_lawful, edit_value_lawful, event_lawful, real_value_lawful, state_lawful, temperature_lawful}
-use Rattle.kind.proofs.Messages.{reads_back}
+use Rattle.kind.proofs.Messages.{reads_back, whole_written}
 use Rattle.kind.specs.Words.{word_round}
+use Rattle.fault.specs.declared.Fault.{Fault}
 use Rattle.packet.specs.declared.draft.Draft.{Draft}
+use Rattle.packet.specs.declared.message.Message.{Message}
 use Rattle.packet.specs.declared.message.Message.TheVariants.{Known}
 use Rattle.packet.specs.declared.message.Record.{Record}
 use Rattle.packet.specs.declared.message.Record.TheVariants.{State, Control, EditValue, RealValue, Event, Temperature}
@@ -17,11 +19,11 @@ use Rattle.packet.specs.Drafts as drafts
 use Rattle.packet.specs.Drafts.{Drafting, ReadsBack, RecordFits, WordsFit, added, added_bytes, appended, appended_bytes, begun, begun_bytes, full, laid_out, length_of, masked, open_bytes, over, size_of}
 use Rattle.packet.specs.Packets.{head_bytes, packet_bytes, record_bytes}
 use Rattle.packet.specs.Messages as messages
-use Rattle.packet.specs.Messages.{followed, messages_of, told}
+use Rattle.packet.specs.Messages.{followed, messages_of, tried}
 use Rattle.packet.specs.Reading.{reading_of}
 use Rattle.packet.specs.Words.{major}
 use Rattle.packet.proofs.Buffers.{length_message}
-use Rattle.packet.proofs.Spelling.{lists_from, not_broken, past, reading_is_grammar, same_answer}
+use Rattle.packet.proofs.Spelling.{lists_from, past, past_control, past_edit_value, past_event, past_real_value, past_state, reading_is_grammar, same_answer}
 use Rattle.packet.proofs.Steps.{none_left, one_then}
 
 -- One record.
@@ -35,25 +37,20 @@ Admitted (RealValue actor actual) = real_value.admits actor ≡ true
 Admitted (Event actor key) = event.admits actor ≡ true
 Admitted (Temperature reading) = Unit {0}
 
--- a written message of a kind, read by the reader of all kinds
+-- a written message of a kind, once it comes to that kind's turn
 kind_reads : {R : Type 0} (k : Layout R) (laws : Lawful k) (f : ℕ → R → Record) (actor : ℕ) (r : R) → actor < 2 ^ 16 → k.admits actor ≡ true → k.Fits r
-    → (rest : List ℕ) (place : ℕ)
-    → (broken (message_of k actor r ++ rest) ≡ false → messages.message_of (message_of k actor r ++ rest) place ≡ told f (read_of k (message_of k actor r ++ rest) place))
+    → (rest : List ℕ) (place : ℕ) (others : Result Message Fault)
+    → messages.message_of (message_of k actor r ++ rest) place ≡ tried f (read_of k (message_of k actor r ++ rest) place) others
     → messages.message_of (message_of k actor r ++ rest) place ≡ Ok (Known (f actor (k.masked r)))
-kind_reads k laws f actor r small admitted fit rest place by =
-    let s : List ℕ = message_of k actor r ++ rest in
-    let least = laws.least in
-    let long = length_message k laws actor r in
-    let sized : length s ≡ length (message_of k actor r) + length rest = length-append (message_of k actor r) rest in
-    by (not_broken s (omega arith) least (omega arith)) ∙ ap (told f) (reads_back k laws actor r rest small admitted fit place)
+kind_reads k laws f actor r small admitted fit rest place others by = by ∙ ap (λ x. tried f x others) (reads_back k laws actor r rest small admitted fit place)
 
 record_reads : (r : Record) → RecordFits r → Admitted r → (rest : List ℕ) (place : ℕ) → messages.message_of (record_bytes r ++ rest) place ≡ Ok (Known (masked r))
-record_reads (State bits) fit ok rest place = kind_reads state state_lawful (λ _ b. State b) 0 bits (omega arith) refl tt rest place (cond-false _ _ _)
-record_reads (Control bits) fit ok rest place = kind_reads control control_lawful (λ _ b. Control b) 0 bits (omega arith) refl tt rest place (cond-false _ _ _)
-record_reads (EditValue actor target) fit ok rest place = kind_reads edit_value edit_value_lawful EditValue actor target fit.0 ok fit.1 rest place (cond-false _ _ _)
-record_reads (RealValue actor actual) fit ok rest place = kind_reads real_value real_value_lawful RealValue actor actual fit.0 ok fit.1 rest place (cond-false _ _ _)
-record_reads (Event actor key) fit ok rest place = kind_reads event event_lawful Event actor key fit ok tt rest place (cond-false _ _ _)
-record_reads (Temperature reading) fit ok rest place = kind_reads temperature temperature_lawful (λ _ b. Temperature b) 0 reading (omega arith) refl fit rest place (cond-false _ _ _)
+record_reads (State bits) fit ok rest place = kind_reads state state_lawful (λ _ b. State b) 0 bits (omega arith) refl tt rest place _ refl
+record_reads (Control bits) fit ok rest place = kind_reads control control_lawful (λ _ b. Control b) 0 bits (omega arith) refl tt rest place _ (past_state (message_of control 0 bits ++ rest) place (whole_written control control_lawful 0 bits rest) (λ e. omega arith))
+record_reads (EditValue actor target) fit ok rest place = kind_reads edit_value edit_value_lawful EditValue actor target fit.0 ok fit.1 rest place _ (past_control (message_of edit_value actor target ++ rest) place (whole_written edit_value edit_value_lawful actor target rest) (λ e. omega arith) (λ e. omega arith))
+record_reads (RealValue actor actual) fit ok rest place = kind_reads real_value real_value_lawful RealValue actor actual fit.0 ok fit.1 rest place _ (past_edit_value (message_of real_value actor actual ++ rest) place (whole_written real_value real_value_lawful actor actual rest) (λ e. omega arith) (λ e. omega arith) (λ e. omega arith))
+record_reads (Event actor key) fit ok rest place = kind_reads event event_lawful Event actor key fit ok tt rest place _ (past_real_value (message_of event actor key ++ rest) place (whole_written event event_lawful actor key rest) (λ e. omega arith) (λ e. omega arith) (λ e. omega arith) (λ e. omega arith))
+record_reads (Temperature reading) fit ok rest place = kind_reads temperature temperature_lawful (λ _ b. Temperature b) 0 reading (omega arith) refl fit rest place _ (past_event (message_of temperature 0 reading ++ rest) place (whole_written temperature temperature_lawful 0 reading rest) (λ e. omega arith) (λ e. omega arith) (λ e. omega arith) (λ e. omega arith) (λ e. omega arith))
 
 -- its length, which is also its first byte
 pub record_sized : (r : Record) (rest : List ℕ) → (length (record_bytes r) ≡ length_of r) × (get_or (record_bytes r ++ rest) 0 0 ≡ length_of r) × (0 < length_of r)

@@ -1,75 +1,110 @@
 -- The reader against the grammar: whatever is spelled is read, and whatever is read is spelled.
-use Rattle.std.proofs.Common.{◌≡◌, ℕ, zero, suc, ◌+◌, ◌-◌, ◌*◌, ◌<◌, ◌≤◌, Bool, true, false, cond, not, eqb, List, [], ◌∷◌, ◌++◌, length, get_or, take, drop, Ok, Err, Result, sym, refl, ap, ◌∙◌, subst, ⊎_elim, arith}
+use Rattle.std.proofs.Common.{◌≡◌, ℕ, zero, suc, ◌+◌, ◌-◌, ◌*◌, ◌<◌, ◌≤◌, Bool, true, false, cond, not, eqb, List, [], ◌∷◌, ◌++◌, length, get_or, take, drop, Some, None, Ok, Err, Option, Result, ◌≢◌, ℤ, sym, refl, ap, ◌∙◌, subst, ⊎_elim, arith}
 use lib.Bits.{bit_and}
 use Rattle.std.proofs.lemmas.List.{drop_at, drop_more, length-append, length-drop, length-take, length-take-le, take-append-drop}
-use Rattle.std.proofs.lemmas.Bool.{cases_Bool, cond-false, cond-true, eq-eqb, eqb-false, eqb-true, le-ltb, ltb-false, ne_eqb, not-false, not_from_false, not-true, or_from, or_parts}
+use Rattle.std.proofs.lemmas.Bool.{cases_Bool, cond-false, cond-true, eq-eqb, eqb-false, eqb-true, le-ltb, ltb-false, ne_eqb, not-false, not_from_false, not_from_true, not-true, or_from, or_parts}
 use Rattle.fault.specs.declared.Fault.{Fault}
-use Rattle.kind.specs.Layout.{Layout, broken, read_of, word}
+use Rattle.kind.specs.Layout.{Layout, Whole, broken, read_of, word}
 use Rattle.kind.specs.Kinds.{state, control, edit_value, real_value, event, flags, no_actor, some_actor, temperature}
-use Rattle.kind.proofs.Messages.{accepted}
+use Rattle.kind.proofs.Messages.{accepted, passed_over}
 use Rattle.packet.specs.declared.message.Record.{Record}
 use Rattle.packet.specs.declared.message.Record.TheVariants.{State, Control, EditValue, RealValue, Event, Temperature}
 use Rattle.packet.specs.declared.message.Message.{Message}
 use Rattle.packet.specs.declared.message.Message.TheVariants.{Known, Unknown}
 use Rattle.packet.specs.Grammar as grammar
 use Rattle.packet.specs.Grammar.{Grammar, Lists, NoKind, Says, Spells}
-use Rattle.packet.specs.Messages.{followed, message_of, messages_of, told}
+use Rattle.packet.specs.Messages.{followed, message_of, messages_of, tried}
 use Rattle.packet.specs.Reading.{behind, messages_from, reading_of}
 use Rattle.packet.specs.Words.{descriptor_of, major, words_of}
 use Rattle.packet.specs.declared.descriptor.Descriptor.{Descriptor}
 use Rattle.packet.proofs.Steps.{none_left, one_then, stops}
 
-pub not_broken : (s : List ℕ) → 4 ≤ length s → 4 ≤ get_or s 0 0 → get_or s 0 0 ≤ length s → broken s ≡ false
-not_broken s four least whole = or_from _ _ (le-ltb (length s) 4 four) (or_from _ _ (le-ltb (get_or s 0 0) 4 least) (le-ltb (length s) (get_or s 0 0) whole))
+-- The choice of a kind.
+
+-- a message that is not of a kind is left to the kinds after it
+left_over : {R : Type 0} (f : ℕ → R → Record) (x : Result (Option (ℕ × R)) Fault) (others : Result Message Fault) → x ≡ Ok None → tried f x others ≡ others
+left_over f x others e = ap (λ r. tried f r others) e
+
+-- what the kinds from one on make of a message
+abbrev from_temperature : List ℕ → ℕ → Result Message Fault
+from_temperature s place = tried (λ _ r. Temperature r) (read_of temperature s place) (Ok (Unknown (get_or s 1 0)))
+
+abbrev from_event : List ℕ → ℕ → Result Message Fault
+from_event s place = tried Event (read_of event s place) (from_temperature s place)
+
+abbrev from_real_value : List ℕ → ℕ → Result Message Fault
+from_real_value s place = tried RealValue (read_of real_value s place) (from_event s place)
+
+abbrev from_edit_value : List ℕ → ℕ → Result Message Fault
+from_edit_value s place = tried EditValue (read_of edit_value s place) (from_real_value s place)
+
+abbrev from_control : List ℕ → ℕ → Result Message Fault
+from_control s place = tried (λ _ r. Control r) (read_of control s place) (from_edit_value s place)
+
+module _ (s : List ℕ) (place : ℕ) (whole : Whole s) where
+  -- a whole message of a kind: its reader answers for it
+  pub taken : {R : Type 0} (k : Layout R) (f : ℕ → R → Record) (others : Result Message Fault) → get_or s 1 0 ≡ k.ident → get_or s 0 0 ≡ k.size → k.admits (word s 2) ≡ true
+      → tried f (read_of k s place) others ≡ Ok (Known (f (word s 2) (k.decode (take (k.size - 4) (drop 4 s)))))
+  taken k f others id same admitted = ap (λ x. tried f x others) (accepted k s place whole id same admitted)
+
+  pub past_state : (get_or s 1 0 ≢ 0x01) → message_of s place ≡ from_control s place
+  past_state n = left_over (λ _ r. State r) _ _ (passed_over state s place whole n)
+
+  pub past_control : (get_or s 1 0 ≢ 0x01) → (get_or s 1 0 ≢ 0x21) → message_of s place ≡ from_edit_value s place
+  past_control m n = past_state m ∙ left_over (λ _ r. Control r) _ _ (passed_over control s place whole n)
+
+  pub past_edit_value : (get_or s 1 0 ≢ 0x01) → (get_or s 1 0 ≢ 0x21) → (get_or s 1 0 ≢ 0x42) → message_of s place ≡ from_real_value s place
+  past_edit_value l m n = past_control l m ∙ left_over EditValue _ _ (passed_over edit_value s place whole n)
+
+  pub past_real_value : (get_or s 1 0 ≢ 0x01) → (get_or s 1 0 ≢ 0x21) → (get_or s 1 0 ≢ 0x42) → (get_or s 1 0 ≢ 0x43) → message_of s place ≡ from_event s place
+  past_real_value k l m n = past_edit_value k l m ∙ left_over RealValue _ _ (passed_over real_value s place whole n)
+
+  pub past_event : (get_or s 1 0 ≢ 0x01) → (get_or s 1 0 ≢ 0x21) → (get_or s 1 0 ≢ 0x42) → (get_or s 1 0 ≢ 0x43) → (get_or s 1 0 ≢ 0x51) → message_of s place ≡ from_temperature s place
+  past_event j k l m n = past_real_value j k l m ∙ left_over Event _ _ (passed_over event s place whole n)
+
+  past_all : NoKind (get_or s 1 0) → message_of s place ≡ Ok (Unknown (get_or s 1 0))
+  past_all n = past_event n.state n.control n.edit_value n.real_value n.event ∙ left_over (λ _ r. Temperature r) _ _ (passed_over temperature s place whole n.temperature)
 
 -- Spelled, then read.
 
 abbrev MessageReads : List ℕ → Message → Type 0
 MessageReads bytes m = (rest : List ℕ) (place : ℕ) → (message_of (bytes ++ rest) place ≡ Ok m) × (get_or (bytes ++ rest) 0 0 ≡ length bytes) × (4 ≤ length bytes)
 
--- a whole message of a known kind: the kind's reader answers for it
-by_kind : {R : Type 0} (k : Layout R) (f : ℕ → R → Record) (s : List ℕ) (place : ℕ) → 4 ≤ length s → 4 ≤ get_or s 0 0 → get_or s 0 0 ≤ length s → get_or s 0 0 ≡ k.size
-    → k.admits (word s 2) ≡ true → message_of s place ≡ told f (read_of k s place)
-    → message_of s place ≡ Ok (Known (f (word s 2) (k.decode (take (k.size - 4) (drop 4 s)))))
-by_kind k f s place four least whole same admitted e = e ∙ ap (told f) (accepted k s place four least whole same admitted)
-
--- the checks of a whole message pass
-pub passed : (s : List ℕ) (place : ℕ) (x y : Result Message Fault) → 4 ≤ length s → 4 ≤ get_or s 0 0 → get_or s 0 0 ≤ length s → cond (broken s) x y ≡ y
-passed s place x y four least whole = cond-false _ _ _ (not_broken s four least whole)
-
 pub says_reads : (bytes : List ℕ) (m : Message) → Says bytes m → MessageReads bytes m
 says_reads _ _ (grammar.Says.state a b c d) rest place =
     let s : List ℕ = 8 ∷ 0x01 ∷ 0 ∷ 0 ∷ a ∷ b ∷ c ∷ d ∷ rest in
-    (by_kind state (λ _ r. State r) s place (omega arith) (omega arith) (omega arith) refl refl (passed s place _ _ (omega arith) (omega arith) (omega arith)), refl, omega arith)
+    let whole : Whole s = (omega arith, omega arith, omega arith) in
+    (taken s place whole state (λ _ r. State r) _ refl refl refl, refl, omega arith)
 says_reads _ _ (grammar.Says.control a b c d) rest place =
     let s : List ℕ = 8 ∷ 0x21 ∷ 0 ∷ 0 ∷ a ∷ b ∷ c ∷ d ∷ rest in
-    (by_kind control (λ _ r. Control r) s place (omega arith) (omega arith) (omega arith) refl refl (passed s place _ _ (omega arith) (omega arith) (omega arith)), refl, omega arith)
+    let whole : Whole s = (omega arith, omega arith, omega arith) in
+    (past_state s place whole (λ e. omega arith) ∙ taken s place whole control (λ _ r. Control r) _ refl refl refl, refl, omega arith)
 says_reads _ _ (grammar.Says.edit_value lo hi a b some) rest place =
     let s : List ℕ = 6 ∷ 0x42 ∷ lo ∷ hi ∷ a ∷ b ∷ rest in
-    (by_kind edit_value EditValue s place (omega arith) (omega arith) (omega arith) refl (not_from_false _ (ne_eqb (lo + hi * 256) 0 some)) (passed s place _ _ (omega arith) (omega arith) (omega arith)), refl, omega arith)
+    let whole : Whole s = (omega arith, omega arith, omega arith) in
+    (past_control s place whole (λ e. omega arith) (λ e. omega arith) ∙ taken s place whole edit_value EditValue _ refl refl (not_from_false _ (ne_eqb (lo + hi * 256) 0 some)), refl, omega arith)
 says_reads _ _ (grammar.Says.real_value lo hi a b some) rest place =
     let s : List ℕ = 6 ∷ 0x43 ∷ lo ∷ hi ∷ a ∷ b ∷ rest in
-    (by_kind real_value RealValue s place (omega arith) (omega arith) (omega arith) refl (not_from_false _ (ne_eqb (lo + hi * 256) 0 some)) (passed s place _ _ (omega arith) (omega arith) (omega arith)), refl, omega arith)
+    let whole : Whole s = (omega arith, omega arith, omega arith) in
+    (past_edit_value s place whole (λ e. omega arith) (λ e. omega arith) (λ e. omega arith) ∙ taken s place whole real_value RealValue _ refl refl (not_from_false _ (ne_eqb (lo + hi * 256) 0 some)), refl, omega arith)
 says_reads _ _ (grammar.Says.event lo hi key reserved some) rest place =
     let s : List ℕ = 6 ∷ 0x51 ∷ lo ∷ hi ∷ key ∷ reserved ∷ rest in
-    (by_kind event Event s place (omega arith) (omega arith) (omega arith) refl (not_from_false _ (ne_eqb (lo + hi * 256) 0 some)) (passed s place _ _ (omega arith) (omega arith) (omega arith)), refl, omega arith)
+    let whole : Whole s = (omega arith, omega arith, omega arith) in
+    (past_real_value s place whole (λ e. omega arith) (λ e. omega arith) (λ e. omega arith) (λ e. omega arith) ∙ taken s place whole event Event _ refl refl (not_from_false _ (ne_eqb (lo + hi * 256) 0 some)), refl, omega arith)
 says_reads _ _ (grammar.Says.temperature a b reserved) rest place =
     let s : List ℕ = 8 ∷ 0x71 ∷ 0 ∷ 0 ∷ a ∷ b ∷ 1 ∷ reserved ∷ rest in
-    (by_kind temperature (λ _ r. Temperature r) s place (omega arith) (omega arith) (omega arith) refl refl (passed s place _ _ (omega arith) (omega arith) (omega arith)), refl, omega arith)
+    let whole : Whole s = (omega arith, omega arith, omega arith) in
+    (past_event s place whole (λ e. omega arith) (λ e. omega arith) (λ e. omega arith) (λ e. omega arith) (λ e. omega arith) ∙ taken s place whole temperature (λ _ r. Temperature r) _ refl refl refl, refl, omega arith)
 says_reads _ _ (grammar.Says.absent a b valid reserved no_valid) rest place =
     let s : List ℕ = 8 ∷ 0x71 ∷ 0 ∷ 0 ∷ a ∷ b ∷ valid ∷ reserved ∷ rest in
-    let read = by_kind temperature (λ _ r. Temperature r) s place (omega arith) (omega arith) (omega arith) refl refl (passed s place _ _ (omega arith) (omega arith) (omega arith)) in
+    let whole : Whole s = (omega arith, omega arith, omega arith) in
+    let read = past_event s place whole (λ e. omega arith) (λ e. omega arith) (λ e. omega arith) (λ e. omega arith) (λ e. omega arith) ∙ taken s place whole temperature (λ _ r. Temperature r) _ refl refl refl in
     (read ∙ ap (λ r. Ok (Known (Temperature r))) (cond-false _ _ _ (ne_eqb valid 1 no_valid)), refl, omega arith)
 says_reads _ _ (grammar.Says.unknown ident lo hi content no_kind) rest place =
     let s : List ℕ = (4 + length content) ∷ ident ∷ lo ∷ hi ∷ (content ++ rest) in
     let long : length s ≡ 4 + length content + length rest = simp length-append (omega arith) in
-    let e₁ = ne_eqb ident 0x01 no_kind.state in
-    let e₂ = ne_eqb ident 0x21 no_kind.control in
-    let e₃ = ne_eqb ident 0x42 no_kind.edit_value in
-    let e₄ = ne_eqb ident 0x43 no_kind.real_value in
-    let e₅ = ne_eqb ident 0x51 no_kind.event in
-    let e₆ = ne_eqb ident 0x71 no_kind.temperature in
-    (passed s place _ _ (omega arith) (omega arith) (omega arith) ∙ simp (e₁, e₂, e₃, e₄, e₅, e₆), omega arith, omega arith)
+    let whole : Whole s = (omega arith, omega arith, omega arith) in
+    (past_all s place whole no_kind, omega arith, omega arith)
 
 pub lists_read : (place : ℕ) (s : List ℕ) (ms : List (ℕ × Message)) → Lists place s ms → messages_of s 0 place ≡ Ok ms
 lists_read _ _ _ (grammar.Lists.end place) = none_left [] place refl
@@ -107,9 +142,19 @@ past false f x y e = (refl, e)
 pub same_answer : {X E : Type 0} (x y : X) → ◌≡◌ {A = Result X E} (Ok x) (Ok y) → x ≡ y
 same_answer x y e = cc
 
-told_from : {R : Type 0} (f : ℕ → R → Record) (x : Result (ℕ × R) Fault) (m : Message) → told f x ≡ Ok m → (p : ℕ × R) × (x ≡ Ok p) × (m ≡ Known (f p.0 p.1))
-told_from f (Ok p) m e = (p, refl, cc)
-told_from f (Err g) m e = let z : ◌≡◌ {A = ℕ} 0 1 = cc in absurd (omega arith)
+clash : {X Y : Type 0} (x : X) (e : Y) {P : Type 0} → ◌≡◌ {A = Result X Y} (Ok x) (Err e) → P
+clash x e h = let z : ◌≡◌ {A = ℕ} 0 1 = cc in absurd (omega arith)
+
+some_none : {X E : Type 0} (x : X) {P : Type 0} → ◌≡◌ {A = Result (Option X) E} (Ok (Some x)) (Ok None) → P
+some_none x h = let z : ◌≡◌ {A = ℕ} 0 1 = cc in absurd (omega arith)
+
+same_some : {X E : Type 0} (x y : X) → ◌≡◌ {A = Result (Option X) E} (Ok (Some x)) (Ok (Some y)) → x ≡ y
+same_some x y e = cc
+
+-- a test that was passed, where something came, or nothing
+past_none : {X E : Type 0} (b : Bool) (x : Result (Option X) E) (y : X) → cond b (Ok None) x ≡ Ok (Some y) → (b ≡ false) × (x ≡ Ok (Some y))
+past_none true x y e = some_none y (sym e)
+past_none false x y e = (refl, e)
 
 -- what a whole message's head says
 whole_from : (s : List ℕ) → broken s ≡ false → (4 ≤ length s) × (4 ≤ get_or s 0 0) × (get_or s 0 0 ≤ length s)
@@ -119,15 +164,36 @@ whole_from s e =
     (ltb-false (length s) 4 p.0, ltb-false (get_or s 0 0) 4 q.0, ltb-false (length s) (get_or s 0 0) q.1)
 
 -- what a kind's reader has seen where it answers
-seen : {R : Type 0} (k : Layout R) (f : ℕ → R → Record) (s : List ℕ) (place : ℕ) (m : Message) → told f (read_of k s place) ≡ Ok m
-    → (get_or s 0 0 ≡ k.size) × (k.admits (word s 2) ≡ true) × (m ≡ Known (f (word s 2) (k.decode (take (k.size - 4) (drop 4 s)))))
-seen {R} k f s place m e =
-    let t = told_from f (read_of k s place) m e in
-    let whole = past (broken s) _ _ t.0 t.1 in
-    let size = past (not (eqb (get_or s 0 0) k.size)) _ _ t.0 whole.1 in
-    let rule = past (not (k.admits (word s 2))) _ _ t.0 size.1 in
-    let same = sym (same_answer _ _ rule.1) in
-    (eqb-true _ _ (not-false _ size.0), not-false _ rule.0, t.2 ∙ ap (λ (p : ℕ × R). Known (f p.0 p.1)) same)
+seen : {R : Type 0} (k : Layout R) (s : List ℕ) (place : ℕ) (p : ℕ × R) → read_of k s place ≡ Ok (Some p)
+    → (get_or s 1 0 ≡ k.ident) × (get_or s 0 0 ≡ k.size) × (k.admits (word s 2) ≡ true) × (p ≡ (word s 2, k.decode (take (k.size - 4) (drop 4 s))))
+seen k s place p e =
+    let whole = past (broken s) _ _ (Some p) e in
+    let id = past_none (not (eqb (get_or s 1 0) k.ident)) _ p whole.1 in
+    let size = past (not (eqb (get_or s 0 0) k.size)) _ _ (Some p) id.1 in
+    let rule = past (not (k.admits (word s 2))) _ _ (Some p) size.1 in
+    (eqb-true _ _ (not-false _ id.0), eqb-true _ _ (not-false _ size.0), not-false _ rule.0, sym (same_some _ _ rule.1))
+
+-- and where it passes a message over
+unlike : {R : Type 0} (k : Layout R) (s : List ℕ) (place : ℕ) → read_of k s place ≡ Ok None → (get_or s 1 0 ≢ k.ident)
+unlike k s place e = ⊎_elim
+    (λ (same : eqb (get_or s 1 0) k.ident ≡ true).
+    let whole = past (broken s) _ _ None e in
+    let id = sym (cond-false _ _ _ (not-from-true same)) ∙ whole.1 in
+    let size = past (not (eqb (get_or s 0 0) k.size)) _ _ None id in
+    let rule = past (not (k.admits (word s 2))) _ _ None size.1 in
+    some_none _ rule.1)
+    (λ other. eqb-false _ _ other)
+    (cases_Bool (eqb (get_or s 1 0) k.ident))
+  where
+    not-from-true : {b : Bool} → b ≡ true → not b ≡ false
+    not-from-true e = not_from_true _ e
+
+-- a kind's reader tells a message, or leaves it to the others
+by_turn : {R : Type 0} (f : ℕ → R → Record) (x : Result (Option (ℕ × R)) Fault) (others : Result Message Fault) (m : Message) {P : Type 0} → tried f x others ≡ Ok m
+    → ((p : ℕ × R) → x ≡ Ok (Some p) → m ≡ Known (f p.0 p.1) → P) → (x ≡ Ok None → others ≡ Ok m → P) → P
+by_turn f (Ok (Some p)) others m e told left = told p refl cc
+by_turn f (Ok None) others m e told left = left refl e
+by_turn f (Err g) others m e told left = clash m g (sym e)
 
 module _ (s : List ℕ) (place : ℕ) (m : Message) (whole : broken s ≡ false) where
   sized : 4 ≤ length s
@@ -137,44 +203,47 @@ module _ (s : List ℕ) (place : ℕ) (m : Message) (whole : broken s ≡ false)
   room = (whole_from s whole).2
 
   -- a message of eight bytes that concerns the switch as a whole: its bytes, and what it is read as
-  eight_says : {R : Type 0} (k : Layout R) (f : R → Record) → k.size ≡ 8 → k.admits ≡ no_actor → get_or s 1 0 ≡ k.ident → told (λ _ r. f r) (read_of k s place) ≡ Ok m
+  eight_says : {R : Type 0} (k : Layout R) (f : R → Record) → k.size ≡ 8 → k.admits ≡ no_actor → (p : ℕ × R) → read_of k s place ≡ Ok (Some p) → m ≡ Known (f p.1)
       → (take (get_or s 0 0) s ≡ 8 ∷ k.ident ∷ 0 ∷ 0 ∷ get_or s 4 0 ∷ get_or s 5 0 ∷ get_or s 6 0 ∷ get_or s 7 0 ∷ [])
       × (m ≡ Known (f (k.decode (get_or s 4 0 ∷ get_or s 5 0 ∷ get_or s 6 0 ∷ get_or s 7 0 ∷ []))))
-  eight_says k f eight rule id e =
-      let t = seen k (λ _ r. f r) s place m e in
-      let size : get_or s 0 0 ≡ 8 = t.0 ∙ eight in
-      let zero_actor : word s 2 ≡ 0 = eqb-true _ _ (sym (ap (λ (p : ℕ → Bool). p (word s 2)) rule) ∙ t.1) in
+  eight_says {R} k f eight rule p is e =
+      let t = seen k s place p is in
+      let id = t.0 in
+      let size : get_or s 0 0 ≡ 8 = t.1 ∙ eight in
+      let zero_actor : word s 2 ≡ 0 = eqb-true _ _ (sym (ap (λ (p : ℕ → Bool). p (word s 2)) rule) ∙ t.2) in
       let long = room in
       let lo : get_or s 2 0 ≡ 0 = omega arith in
       let hi : get_or s 3 0 ≡ 0 = omega arith in
       let parts = front 8 s 0 (omega arith) in
       let bytes : take 8 s ≡ 8 ∷ k.ident ∷ 0 ∷ 0 ∷ get_or s 4 0 ∷ get_or s 5 0 ∷ get_or s 6 0 ∷ get_or s 7 0 ∷ [] = cc in
       let content : take (k.size - 4) (drop 4 s) ≡ get_or s 4 0 ∷ get_or s 5 0 ∷ get_or s 6 0 ∷ get_or s 7 0 ∷ [] = ap (λ (n : ℕ). take (n - 4) (drop 4 s)) eight ∙ front 4 s 4 (omega arith) in
-      (ap (λ (n : ℕ). take n s) size ∙ bytes, t.2 ∙ ap (λ (l : List ℕ). Known (f (k.decode l))) content)
+      (ap (λ (n : ℕ). take n s) size ∙ bytes, e ∙ ap (λ (q : ℕ × R). Known (f q.1)) t.3 ∙ ap (λ (l : List ℕ). Known (f (k.decode l))) content)
 
   flags_says : (ident mask : ℕ) (f : ℕ → Record)
       → ((a b c d : ℕ) → Says (8 ∷ ident ∷ 0 ∷ 0 ∷ a ∷ b ∷ c ∷ d ∷ []) (Known (f (bit_and (a + b * 256 + c * 65536 + d * 16777216) mask))))
-      → get_or s 1 0 ≡ ident → told (λ _ r. f r) (read_of (flags ident mask) s place) ≡ Ok m → Says (take (get_or s 0 0) s) m
-  flags_says ident mask f says id e =
-      let t = eight_says (flags ident mask) f refl refl id e in
+      → (p : ℕ × ℕ) → read_of (flags ident mask) s place ≡ Ok (Some p) → m ≡ Known (f p.1) → Says (take (get_or s 0 0) s) m
+  flags_says ident mask f says p is e =
+      let t = eight_says (flags ident mask) f refl refl p is e in
       as_said t.0 t.1 (says (get_or s 4 0) (get_or s 5 0) (get_or s 6 0) (get_or s 7 0))
 
   pair_says : {R : Type 0} (k : Layout R) (f : ℕ → R → Record) → k.size ≡ 6 → k.admits ≡ some_actor
       → ((lo hi a b : ℕ) → (lo + hi * 256 ≡ 0 → ⊥) → Says (6 ∷ k.ident ∷ lo ∷ hi ∷ a ∷ b ∷ []) (Known (f (lo + hi * 256) (k.decode (a ∷ b ∷ [])))))
-      → get_or s 1 0 ≡ k.ident → told f (read_of k s place) ≡ Ok m → Says (take (get_or s 0 0) s) m
-  pair_says k f six rule says id e =
-      let t = seen k f s place m e in
-      let size : get_or s 0 0 ≡ 6 = t.0 ∙ six in
-      let some = eqb-false _ _ (not-true _ (sym (ap (λ (p : ℕ → Bool). p (word s 2)) rule) ∙ t.1)) in
+      → (p : ℕ × R) → read_of k s place ≡ Ok (Some p) → m ≡ Known (f p.0 p.1) → Says (take (get_or s 0 0) s) m
+  pair_says {R} k f six rule says p is e =
+      let t = seen k s place p is in
+      let id = t.0 in
+      let size : get_or s 0 0 ≡ 6 = t.1 ∙ six in
+      let some : word s 2 ≢ 0 = eqb-false _ _ (not-true _ (sym (ap (λ (p : ℕ → Bool). p (word s 2)) rule) ∙ t.2)) in
       let long = room in
       let parts = front 6 s 0 (omega arith) in
       let bytes : take 6 s ≡ 6 ∷ k.ident ∷ get_or s 2 0 ∷ get_or s 3 0 ∷ get_or s 4 0 ∷ get_or s 5 0 ∷ [] = cc in
       let content : take (k.size - 4) (drop 4 s) ≡ get_or s 4 0 ∷ get_or s 5 0 ∷ [] = ap (λ (n : ℕ). take (n - 4) (drop 4 s)) six ∙ front 2 s 4 (omega arith) in
-      as_said (ap (λ (n : ℕ). take n s) size ∙ bytes) (t.2 ∙ ap (λ (l : List ℕ). Known (f (word s 2) (k.decode l))) content) (says (get_or s 2 0) (get_or s 3 0) (get_or s 4 0) (get_or s 5 0) some)
+      as_said (ap (λ (n : ℕ). take n s) size ∙ bytes) (e ∙ ap (λ (q : ℕ × R). Known (f q.0 q.1)) t.3 ∙ ap (λ (l : List ℕ). Known (f (word s 2) (k.decode l))) content)
+      (says (get_or s 2 0) (get_or s 3 0) (get_or s 4 0) (get_or s 5 0) some)
 
-  temperature_says : get_or s 1 0 ≡ 0x71 → told (λ _ r. Temperature r) (read_of temperature s place) ≡ Ok m → Says (take (get_or s 0 0) s) m
-  temperature_says id e =
-      let t = eight_says temperature Temperature refl refl id e in
+  temperature_says : (p : ℕ × Option ℤ) → read_of temperature s place ≡ Ok (Some p) → m ≡ Known (Temperature p.1) → Says (take (get_or s 0 0) s) m
+  temperature_says p is e =
+      let t = eight_says temperature Temperature refl refl p is e in
       let spelled = t.0 in
       let said = t.1 in
       ⊎_elim
@@ -201,32 +270,23 @@ module _ (s : List ℕ) (place : ℕ) (m : Message) (whole : broken s ≡ false)
   -- the kind that has the MessageID read the message, or no kind has it
   kind_says : message_of s place ≡ Ok m → Says (take (get_or s 0 0) s) m
   kind_says e =
-      let id : ℕ = get_or s 1 0 in
-      by_test (eqb id 0x01) _ _ (sym (cond-false _ _ _ whole) ∙ e) (λ is. flags_says 0x01 0x1F0F18FF State grammar.Says.state (eqb-true _ _ is)) (λ no₁ e₁.
-      by_test (eqb id 0x21) _ _ e₁ (λ is. flags_says 0x21 0x1F00FFBF Control grammar.Says.control (eqb-true _ _ is)) (λ no₂ e₂.
-      by_test (eqb id 0x42) _ _ e₂ (λ is. pair_says edit_value EditValue refl refl grammar.Says.edit_value (eqb-true _ _ is)) (λ no₃ e₃.
-      by_test (eqb id 0x43) _ _ e₃ (λ is. pair_says real_value RealValue refl refl grammar.Says.real_value (eqb-true _ _ is)) (λ no₄ e₄.
-      by_test (eqb id 0x51) _ _ e₄ (λ is. pair_says event Event refl refl grammar.Says.event (eqb-true _ _ is)) (λ no₅ e₅.
-      by_test (eqb id 0x71) _ _ e₅ (λ is. temperature_says (eqb-true _ _ is)) (λ no₆.
+      by_turn (λ _ r. State r) _ _ m e (flags_says 0x01 0x1F0F18FF State grammar.Says.state) (λ no₁ e₁.
+      by_turn (λ _ r. Control r) _ _ m e₁ (flags_says 0x21 0x1F00FFBF Control grammar.Says.control) (λ no₂ e₂.
+      by_turn EditValue _ _ m e₂ (pair_says edit_value EditValue refl refl grammar.Says.edit_value) (λ no₃ e₃.
+      by_turn RealValue _ _ m e₃ (pair_says real_value RealValue refl refl grammar.Says.real_value) (λ no₄ e₄.
+      by_turn Event _ _ m e₄ (pair_says event Event refl refl grammar.Says.event) (λ no₅ e₅.
+      by_turn (λ _ r. Temperature r) _ _ m e₅ temperature_says (λ no₆.
       unknown_says (record {
-        state = eqb-false _ _ no₁;
-        control = eqb-false _ _ no₂;
-        edit_value = eqb-false _ _ no₃;
-        real_value = eqb-false _ _ no₄;
-        event = eqb-false _ _ no₅;
-        temperature = eqb-false _ _ no₆;
+        state = unlike state s place no₁;
+        control = unlike control s place no₂;
+        edit_value = unlike edit_value s place no₃;
+        real_value = unlike real_value s place no₄;
+        event = unlike event s place no₅;
+        temperature = unlike temperature s place no₆;
       })))))))
-    where
-      by_test : (b : Bool) (x y : Result Message Fault) → cond b x y ≡ Ok m → (b ≡ true → x ≡ Ok m → Says (take (get_or s 0 0) s) m) → (b ≡ false → y ≡ Ok m → Says (take (get_or s 0 0) s) m)
-          → Says (take (get_or s 0 0) s) m
-      by_test true x y e f g = f refl e
-      by_test false x y e f g = g refl e
-
-clash : {X Y : Type 0} (x : X) (e : Y) {P : Type 0} → ◌≡◌ {A = Result X Y} (Ok x) (Err e) → P
-clash x e h = let z : ◌≡◌ {A = ℕ} 0 1 = cc in absurd (omega arith)
 
 message_whole : (s : List ℕ) (place : ℕ) (m : Message) → message_of s place ≡ Ok m → broken s ≡ false
-message_whole s place m e = ⊎_elim (λ b. clash m _ (sym e ∙ cond-true _ _ _ b)) (λ b. b) (cases_Bool (broken s))
+message_whole s place m e = ⊎_elim (λ b. clash m _ (sym e ∙ ap (λ x. tried (λ _ r. State r) x (from_control s place)) (cond-true _ _ _ b))) (λ b. b) (cases_Bool (broken s))
 
 split_followed : (place : ℕ) (m : Message) (more : Result (List (ℕ × Message)) Fault) (ms : List (ℕ × Message)) → followed place (Ok m) more ≡ Ok ms
     → (rest : List (ℕ × Message)) × (more ≡ Ok rest) × (ms ≡ (place, m) ∷ rest)

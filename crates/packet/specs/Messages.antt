@@ -1,9 +1,7 @@
 -- The messages of a payload, each with its offset, or the first fault.
-use Rattle.std.specs.Prelude.{ℕ, zero, suc, pred, ◌+◌, Bool, true, false, cond, List, [], ◌∷◌, Ok, Err, Result, ◌==◌, slice_index}
-use Rattle.fault.specs.declared.MessageFault.TheVariants.{Broken}
+use Rattle.std.specs.Prelude.{ℕ, zero, suc, pred, ◌+◌, Bool, true, false, cond, List, [], ◌∷◌, Some, None, Ok, Err, Option, Result, slice_index}
 use Rattle.fault.specs.declared.Fault.{Fault}
-use Rattle.fault.specs.declared.Fault.TheVariants as fault
-use Rattle.kind.specs.Layout.{broken, read_of}
+use Rattle.kind.specs.Layout.{read_of}
 use Rattle.kind.specs.Kinds.{state, control, edit_value, real_value, event, temperature}
 use Rattle.packet.specs.declared.message.Record.{Record}
 use Rattle.packet.specs.declared.message.Record.TheVariants.{State, Control, EditValue, RealValue, Event, Temperature}
@@ -14,22 +12,22 @@ abbrev pub is_known : Message → Bool
 is_known (Known r) = true
 is_known (Unknown ident) = false
 
--- an actor and its data, as a message
-abbrev pub told : {R : Type 0} → (ℕ → R → Record) → Result (ℕ × R) Fault → Result Message Fault
-told f (Ok p) = Ok (Known (f p.0 p.1))
-told f (Err e) = Err e
+-- One kind's turn at a message: told as its record, left to the kinds after it, or refused.
+abbrev pub tried : {R : Type 0} → (ℕ → R → Record) → Result (Option (ℕ × R)) Fault → Result Message Fault → Result Message Fault
+tried f (Ok (Some p)) others = Ok (Known (f p.0 p.1))
+tried f (Ok None) others = others
+tried f (Err e) others = Err e
 
--- The message that begins s, which stands at a place in its payload: read by the kind that has its MessageID, or passed over.
+-- The message that begins s, which stands at a place in its payload: read by the kind that it is of, or passed over as none of them.
 abbrev pub message_of : List ℕ → ℕ → Result Message Fault
 message_of s place =
-    cond (broken s) (Err (fault.Message Broken place))
-    (cond (slice_index s 1 == 0x01) (told (λ a r. State r) (read_of state s place))
-    (cond (slice_index s 1 == 0x21) (told (λ a r. Control r) (read_of control s place))
-    (cond (slice_index s 1 == 0x42) (told (λ a r. EditValue a r) (read_of edit_value s place))
-    (cond (slice_index s 1 == 0x43) (told (λ a r. RealValue a r) (read_of real_value s place))
-    (cond (slice_index s 1 == 0x51) (told (λ a r. Event a r) (read_of event s place))
-    (cond (slice_index s 1 == 0x71) (told (λ a r. Temperature r) (read_of temperature s place))
-    (Ok (Unknown (slice_index s 1)))))))))
+    tried (λ _ r. State r) (read_of state s place)
+    (tried (λ _ r. Control r) (read_of control s place)
+    (tried EditValue (read_of edit_value s place)
+    (tried RealValue (read_of real_value s place)
+    (tried Event (read_of event s place)
+    (tried (λ _ r. Temperature r) (read_of temperature s place)
+    (Ok (Unknown (slice_index s 1))))))))
 
 -- a message and what follows it, unless one of them fails: the first failure counts
 abbrev pub followed : ℕ → Result Message Fault → Result (List (ℕ × Message)) Fault → Result (List (ℕ × Message)) Fault

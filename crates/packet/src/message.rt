@@ -1,13 +1,9 @@
 // One message: what it says, if its kind is known.
 ghost use Rattle.std.specs.Prelude.{◌≡◌, ◌≤◌, false, length, OnOk, slice_index};
-ghost use Rattle.kind.specs.Layout.{broken};
 ghost use Rattle.packet.specs.Messages.{message_of, is_known};
 
-use fault::{Fault, MessageFault};
-use kind::{
-    CONTROL_ID, Control, EDIT_VALUE_ID, EditValue, Event, Kind, REAL_VALUE_ID, RealValue, STATE_ID,
-    State, Temperature,
-};
+use fault::Fault;
+use kind::{Control, EditValue, Event, RealValue, State, Temperature};
 
 // A message of a known kind, in the kind's own terms.
 #[derive(Clone, Copy, PartialEq, Eq, Debug)]
@@ -40,31 +36,24 @@ impl Message {
         ensures answer { result ≡ message_of bytes.now place }
         ensures whole { OnOk result ((4 ≤ slice_index bytes.now 0) × (slice_index bytes.now 0 ≤ length bytes.now)) }
     {
-        let &[len, id, _lo, _hi, ref _rest @ ..] = bytes else {
-            return Err(Fault::Message(MessageFault::Broken, place));
-        };
-        // `kind::read` checks this again, since it can be called alone
-        if len < 4 || len as usize > bytes.len() {
-            return Err(Fault::Message(MessageFault::Broken, place));
+        if let Some((_, flags)) = kind::read::<State>(bytes, place)? {
+            return Ok(Message::Known(Record::State(flags)));
         }
-        let record = match id {
-            STATE_ID => Record::State(kind::read::<State>(bytes, place)?.1),
-            CONTROL_ID => Record::Control(kind::read::<Control>(bytes, place)?.1),
-            EDIT_VALUE_ID => {
-                let (actor, target) = kind::read::<EditValue>(bytes, place)?;
-                Record::EditValue { actor, target }
-            }
-            REAL_VALUE_ID => {
-                let (actor, actual) = kind::read::<RealValue>(bytes, place)?;
-                Record::RealValue { actor, actual }
-            }
-            Event::ID => {
-                let (actor, key) = kind::read::<Event>(bytes, place)?;
-                Record::Event { actor, key }
-            }
-            Temperature::ID => Record::Temperature(kind::read::<Temperature>(bytes, place)?.1),
-            other => return Ok(Message::Unknown(other)),
-        };
-        Ok(Message::Known(record))
+        if let Some((_, word)) = kind::read::<Control>(bytes, place)? {
+            return Ok(Message::Known(Record::Control(word)));
+        }
+        if let Some((actor, target)) = kind::read::<EditValue>(bytes, place)? {
+            return Ok(Message::Known(Record::EditValue { actor, target }));
+        }
+        if let Some((actor, actual)) = kind::read::<RealValue>(bytes, place)? {
+            return Ok(Message::Known(Record::RealValue { actor, actual }));
+        }
+        if let Some((actor, key)) = kind::read::<Event>(bytes, place)? {
+            return Ok(Message::Known(Record::Event { actor, key }));
+        }
+        if let Some((_, reading)) = kind::read::<Temperature>(bytes, place)? {
+            return Ok(Message::Known(Record::Temperature(reading)));
+        }
+        Ok(Message::Unknown(bytes[1]))
     }
 }
