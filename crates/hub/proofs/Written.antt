@@ -149,11 +149,11 @@ began w buf after d fit ok bytes room =
     }
 
 pub finished : (d : Draft) (buf after : List ℕ) (r : Result Closed (Fault × Draft)) (k : Closed) → r ≡ Ok k → r ≡ closed d buf → after ≡ closed_bytes d buf
-    → IfOk r (λ c. ReadsBack d buf (take c.length after)) → size_of d ≤ length buf → Finished d buf after
+    → IfOk r (λ n. ReadsBack d buf (take n after)) → size_of d ≤ length buf → Finished d buf after
 finished d buf after r k ok answer bytes back room =
     let granted = past (full d 0 buf) _ _ k (sym answer ∙ ok) in
-    let size : k.length ≡ size_of d = ap (λ (c : Closed). c.length) (sym (same_answer _ _ granted.1)) in
-    let reads : ReadsBack d buf (take k.length after) = subst (λ x. IfOk x (λ c. ReadsBack d buf (take c.length after))) ok back in
+    let size : k ≡ size_of d = sym (same_answer _ _ granted.1) in
+    let reads : ReadsBack d buf (take k after) = subst (λ x. IfOk x (λ n. ReadsBack d buf (take n after))) ok back in
     record {
       packet = λ w rs p. (subst (λ (n : ℕ). ReadsBack d buf (take n after)) size reads w rs p).0;
       beyond = λ n h. ap (drop n) (bytes ∙ cond-false _ _ _ granted.0) ∙ drop_over buf (word_bytes (size_of d)) 2 n (omega arith) (omega arith);

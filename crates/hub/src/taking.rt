@@ -79,11 +79,11 @@ fn count_messages(payload: &[u8]) -> Result<usize, Fault>
 
 // The next message of a payload whose messages all read.
 fn next_message(cursor: &mut Cursor<'_>) -> Option<Message>
-    requires { is_ok (messages_from cursor.old.payload.now cursor.old.place) ≡ true }
-    ensures payload { cursor.new.payload.now ≡ cursor.old.payload.now }
+    requires { is_ok (messages_from cursor.old.payload cursor.old.place) ≡ true }
+    ensures payload { cursor.new.payload ≡ cursor.old.payload }
     ensures moves { OnSome result (cursor.old.place < cursor.new.place) }
-    ensures within { OnSome result (cursor.new.place ≤ length cursor.old.payload.now) }
-    ensures walked { Heard cursor.old.payload.now cursor.old.place cursor.new.place result }
+    ensures within { OnSome result (cursor.new.place ≤ length cursor.old.payload) }
+    ensures walked { Heard cursor.old.payload cursor.old.place cursor.new.place result }
 {
     let (_, message) = cursor.next().unwrap()?;
     Some(message)

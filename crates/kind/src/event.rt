@@ -8,7 +8,7 @@ use crate::message::Kind;
 // A key of the panel has four bits; the byte after it is reserved.
 const KEY_BITS: u8 = 0x0F;
 
-// A key that acts on an actor.
+/// A key that acts on an actor, as a number of four bits: 6 bytes, for an actor other than 0. The reserved byte is dropped in reading, and written as 0.
 #[derive(Clone, Copy, PartialEq, Eq, Debug)]
 pub struct Event;
 

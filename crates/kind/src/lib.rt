@@ -11,12 +11,12 @@ mod temperature;
 mod value;
 
 pub use event::Event;
-pub use flags::{CONTROL_BITS, CONTROL_ID, Control, Flags, STATE_ID, State, asks_init};
+pub use flags::{CONTROL_BITS, Control, Flags, State, asks_init};
 pub use message::{Kind, kinds_are_distinct, read, write};
 pub use temperature::Temperature;
-pub use value::{EDIT_VALUE_ID, EditValue, REAL_VALUE_ID, RealValue, Value};
+pub use value::{EditValue, RealValue, Value};
 
-// Nothing runs here: it states that each kind of flags or values is the one of its name.
+/// Nothing runs here: it states that each kind of flags or values is the one of its name.
 pub fn flags_and_values_stand()
     ensures state { Agrees ⟦<State as Kind>⟧.layout state }
     ensures control { Agrees ⟦<Control as Kind>⟧.layout control }

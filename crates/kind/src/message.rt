@@ -4,32 +4,32 @@ ghost use Rattle.kind.specs.Layout.{Distinct, Layout, Lawful, ReadsBack, data_of
 
 use fault::{CallFault, Fault, MessageFault};
 
-// A kind of message.
+/// A kind of message: its MessageID, its MessageLength, the actors that it admits, and its data.
 pub trait Kind {
-    // The MessageID by which the kind is known.
+    /// The MessageID by which the kind is known.
     const ID: u8;
 
     ghost ID: { ℕ };
 
-    // The MessageLength, which counts the whole message.
+    /// The MessageLength in bytes, which counts the whole message.
     const LEN: u8;
 
     ghost LEN: { ℕ };
 
-    // What a message of this kind says.
+    /// What a message of this kind says.
     type Record: Copy;
 
     ghost layout: { Layout Self.Record };
 
-    // Whether a message of this kind may name the actor. A constant in place of this line of each kind would need a ghost member and a law beside it.
+    /// Whether a message of this kind may name the actor.
     fn admits(actor: u16) -> bool
         ensures { result ≡ layout.admits actor };
 
-    // The record in a message's data, if that has LEN - 4 bytes.
+    /// The record in a message's data, if that has LEN - 4 bytes.
     fn decode(data: &[u8]) -> Option<Self::Record>
         ensures { result ≡ data_of layout «data».now };
 
-    // A message's data: the first LEN - 4 bytes of these, and zeros. Four for every kind, since no array's length can be computed from LEN.
+    /// A message's data: the first LEN - 4 bytes of these, and zeros. Four for every kind, since no array's length can be computed from LEN.
     fn encode(record: Self::Record) -> [u8; 4]
         ensures { result ≡ padded (layout.encode «record») };
 
@@ -82,7 +82,8 @@ fn lay<K: Kind>(out: &mut [u8], actor: u16, record: K::Record)
     out[4..size].copy_from_slice(&data[0..size - 4]);
 }
 
-// Writes a message of kind K at the front of `out`, and tells its length. What lies behind it stays.
+/// Writes a message of kind K at the front of `out`, and tells its length in bytes. What lies behind it stays.
+/// Refused with 9 where the kind does not admit the actor, then with 20 where `out` is too short, both at 0; then `out` stays as it was.
 pub fn write<K: Kind>(out: &mut [u8], actor: u16, record: K::Record) -> Result<usize, Fault>
     ensures answer { result ≡ write_of K.layout actor out.old }
     ensures bytes { out.new ≡ written_of K.layout actor «record» out.old }

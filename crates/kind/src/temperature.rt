@@ -8,7 +8,8 @@ use crate::message::Kind;
 // The one Valid byte under which a reading counts.
 const VALID: u8 = 1;
 
-// A reading in tenths of a degree, absent where the switch has none.
+/// A reading in tenths of a degree, absent where the Valid byte is not 1: 8 bytes, for the switch as a whole, so that its ActorID is 0.
+/// An absent one is written as value 0 with Valid 0. The reserved byte is dropped in reading, and written as 0.
 #[derive(Clone, Copy, PartialEq, Eq, Debug)]
 pub struct Temperature;
 

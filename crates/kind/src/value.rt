@@ -5,19 +5,18 @@ ghost use Rattle.kind.specs.Laws.{value_lawful};
 
 use crate::message::Kind;
 
-// An associated constant of a generic impl is no pattern: a match names these.
-pub const EDIT_VALUE_ID: u8 = 0x42;
+const EDIT_VALUE_ID: u8 = 0x42;
 
-pub const REAL_VALUE_ID: u8 = 0x43;
+const REAL_VALUE_ID: u8 = 0x43;
 
-// One signed word of an actor.
+/// The kind with this MessageID whose data is one signed word of an actor: 6 bytes, for an actor other than 0.
 #[derive(Clone, Copy, PartialEq, Eq, Debug)]
 pub struct Value<const ID: u8>;
 
-// An actor's target.
+/// An actor's target.
 pub type EditValue = Value<EDIT_VALUE_ID>;
 
-// An actor's actual value.
+/// An actor's actual value.
 pub type RealValue = Value<REAL_VALUE_ID>;
 
 impl<const ID: u8> Kind for Value<ID> {

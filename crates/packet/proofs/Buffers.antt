@@ -1,10 +1,11 @@
 -- What writes into a buffer leave.
-use Rattle.std.proofs.Common.{◌≡◌, ℕ, ◌+◌, ◌-◌, ◌≤◌, true, List, [], ◌++◌, length, take, drop, sym, ap, ◌∙◌, ap₂, append-nil, arith}
+use Rattle.std.proofs.Common.{◌≡◌, ℕ, ◌+◌, ◌-◌, ◌^◌, ◌<◌, ◌≤◌, true, List, [], ◌++◌, length, take, drop, sym, ap, ◌∙◌, ap₂, append-nil, subst, arith}
 use borrow.Rule.Slice.PartMut.{put_mid}
-use Rattle.std.proofs.lemmas.List.{drop_all, drop-drop, length-drop, take_rest}
+use Rattle.std.proofs.lemmas.List.{drop_all, drop-drop, drop_at, length-drop, length-take-le, take_rest}
 use Rattle.std.proofs.lemmas.Bool.{cond-false, le-ltb, not_from_true}
-use Rattle.kind.specs.Layout.{Layout, Lawful, message_of, written_of}
-use Rattle.packet.specs.Drafts.{over}
+use Rattle.kind.specs.Layout.{Layout, Lawful, ReadsBack, message_of, written_of}
+use Rattle.kind.proofs.Messages.{reads_back}
+use Rattle.packet.specs.Drafts.{StandsAt, over}
 
 module _ {R : Type 0} (k : Layout R) (laws : Lawful k) (actor : ℕ) (r : R) where
   pub length_message : length (message_of k actor r) ≡ k.size
@@ -24,3 +25,10 @@ module _ {R : Type 0} (k : Layout R) (laws : Lawful k) (actor : ℕ) (r : R) whe
       ap₂ (λ (a b : List ℕ). take at buf ++ (a ++ b)) written nothing
       ∙ ap (λ (l : List ℕ). take at buf ++ l) (append-nil (message_of k actor r ++ drop k.size (drop at buf)))
       ∙ ap (λ (l : List ℕ). take at buf ++ (message_of k actor r ++ l)) behind
+
+  -- and there it reads back
+  pub stands_at : (buf after : List ℕ) (at : ℕ) → at + k.size ≤ length buf → actor < 2 ^ 16 → k.admits actor ≡ true → after ≡ over buf at (message_of k actor r) → StandsAt k actor r at after
+  stands_at buf after at room small admitted e =
+      let rest : List ℕ = drop (at + length (message_of k actor r)) buf in
+      let behind : drop at after ≡ message_of k actor r ++ rest = ap (drop at) e ∙ drop_at (take at buf) (message_of k actor r ++ rest) at (length-take-le at buf (omega arith)) in
+      subst (ReadsBack k actor r) (sym behind) (reads_back k laws actor r rest small admitted)

@@ -1,5 +1,5 @@
 -- A closed draft's packet reads back as its words and its records.
-use Rattle.std.proofs.Common.{◌≡◌, ℕ, ◌+◌, ◌^◌, ◌<◌, ◌≤◌, true, false, not, eqb, ltb, List, [], ◌∷◌, ◌++◌, length, get_or, take, drop, Some, None, Ok, Result, sym, refl, ap, ◌∙◌, ap₂, arith}
+use Rattle.std.proofs.Common.{◌≡◌, ℕ, ◌+◌, ◌^◌, ◌<◌, ◌≤◌, true, not, eqb, ltb, List, [], ◌∷◌, ◌++◌, length, get_or, take, drop, Some, None, Ok, Result, sym, refl, ap, ◌∙◌, ap₂, arith}
 use Rattle.std.proofs.lemmas.List.{append_assoc, drop_at, flat_map_more, length-append, length-drop, length-take, length-take-le, take-append-drop, take_at}
 use Rattle.std.proofs.lemmas.Bool.{cond-false, eqb-true, ltb-false, not-false, or_parts}
 use Rattle.std.specs.List.{flat_map}
@@ -22,7 +22,6 @@ use Rattle.packet.specs.Messages as messages
 use Rattle.packet.specs.Messages.{followed, messages_of, tried}
 use Rattle.packet.specs.Reading.{reading_of}
 use Rattle.packet.specs.Words.{major}
-use Rattle.packet.proofs.Buffers.{length_message}
 use Rattle.packet.proofs.Spelling.{lists_from, past, past_control, past_edit_value, past_event, past_real_value, past_state, reading_is_grammar, same_answer}
 use Rattle.packet.proofs.Steps.{none_left, one_then}
 

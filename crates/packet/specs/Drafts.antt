@@ -7,6 +7,7 @@ use Rattle.fault.specs.declared.Fault.TheVariants as fault
 use Rattle.fault.specs.declared.FrameFault.TheVariants.{MajorVersion}
 use Rattle.fault.specs.declared.MessageFault.TheVariants.{ActorRule}
 use Rattle.kind.specs.Kinds.{ReadingFits, control, edit_value, event, real_value, state, temperature}
+use Rattle.kind.specs.Layout as kind
 use Rattle.kind.specs.Layout.{Layout, message_of, word_bytes}
 use Rattle.packet.specs.declared.draft.Closed.{Closed}
 use Rattle.packet.specs.declared.draft.Draft.{Draft}
@@ -61,6 +62,10 @@ appended_bytes k d actor r buf =
     (cond (full d k.size buf) buf
     (over buf (size_of d) (message_of k actor r)))
 
+-- At a place of a buffer, a message reads back as this actor and this record, masked.
+abbrev pub StandsAt : {R : Type 0} → Layout R → ℕ → R → ℕ → List ℕ → Type 0
+StandsAt k actor r at buf = kind.ReadsBack k actor r (drop at buf)
+
 -- Adding a record, by its kind.
 abbrev pub added : Record → Draft → List ℕ → Result Draft (Fault × Draft)
 added (State bits) d buf = appended state d 0 buf
@@ -80,7 +85,7 @@ added_bytes (Temperature reading) d buf = appended_bytes temperature d 0 reading
 
 -- Closing fills in FrameLength.
 abbrev pub closed : Draft → List ℕ → Result Closed (Fault × Draft)
-closed d buf = cond (full d 0 buf) (Err (fault.Call ShortBuffer 0, d)) (Ok (record { length = size_of d }))
+closed d buf = cond (full d 0 buf) (Err (fault.Call ShortBuffer 0, d)) (Ok (size_of d))
 
 abbrev pub closed_bytes : Draft → List ℕ → List ℕ
 closed_bytes d buf = cond (full d 0 buf) buf (over buf 2 (word_bytes (size_of d)))

@@ -5,6 +5,11 @@ use Rattle.packet.specs.declared.message.Message.{Message}
 use Rattle.packet.specs.Messages.{message_of}
 use Rattle.packet.specs.Reading.{messages_from}
 
+-- a payload, and the place in it from which messages are left to read
+pub record Walk : Type 0 where
+  pub payload : List ℕ
+  pub place : ℕ
+
 abbrev pub placed : ℕ → Result Message Fault → Result (Option (ℕ × Message)) Fault
 placed place (Ok m) = Ok (Some (place, m))
 placed place (Err e) = Err e

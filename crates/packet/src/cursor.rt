@@ -7,20 +7,21 @@ ghost use Rattle.packet.specs.Walking.{Walked, next_of, place_after, placed, adv
 use crate::descriptor::DESCRIPTOR_LEN;
 use crate::message::Message;
 use fault::Fault;
+use std::marker::Model;
 
-// A place in a payload: at the first byte of a message, or at the end.
-#[derive(Clone, Copy, PartialEq, Eq, Debug)]
+/// A place in a payload: at the first byte of a message, or at the end.
+#[derive(Debug, Drop)]
 pub struct Cursor<'a> {
     payload: &'a [u8],
     place: usize,
 }
 
-// Whether nothing is left to read.
-fn at_end(payload: &[u8], place: usize) -> bool
-    ensures answer { result ≡ not (nat_lt place (length payload.now)) }
-    ensures none { result ≡ true → messages_from payload.now place ≡ Ok [] }
-{
-    place >= payload.len()
+impl<'a> Model for Cursor<'a> {
+    ghost use Rattle.packet.specs.Walking.{Walk};
+
+    ghost Value = { Walk };
+
+    ghost view = { λ c. record { payload = c.payload.now; place = c.place } };
 }
 
 // The message at a place before the end.
@@ -34,9 +35,9 @@ fn message_at(payload: &[u8], place: usize) -> Result<Message, Fault>
 }
 
 impl<'a> Cursor<'a> {
-    // A cursor at the first message, behind the descriptor.
+    /// A cursor at the first message of a payload, behind the descriptor.
     pub fn new(payload: &'a [u8]) -> Cursor<'a>
-        ensures payload { result.payload.now ≡ payload.now }
+        ensures payload { result.payload ≡ payload.now }
         ensures place { result.place ≡ 16 }
     {
         Cursor {
@@ -45,17 +46,18 @@ impl<'a> Cursor<'a> {
         }
     }
 
-    // The next message and its offset, or nothing at the end. The cursor stays where a message does not read:
-    // as an `Iterator` it would give that fault without end.
+    /// The next message and its offset in the payload, or nothing at the end. A message that does not read is refused with 7, 8 or 9 at its first byte, as
+    /// `Message::read` does, and the cursor stays before it: as an `Iterator` it would give that fault without end.
+    #[tactic(auto, using(crate::proofs::Walks::none_from))]
     pub fn next(&mut self) -> Result<Option<(usize, Message)>, Fault>
-        ensures answer { result ≡ next_of self.old.payload.now self.old.place }
-        ensures payload { self.new.payload.now ≡ self.old.payload.now }
-        ensures place { self.new.place ≡ place_after self.old.payload.now self.old.place }
-        ensures moves { IfOk result (λ o. OnSome o ((self.old.place + 4 ≤ self.new.place) × (self.new.place ≤ length self.old.payload.now))) }
-        ensures walked { Walked self.old.payload.now self.old.place self.new.place result }
+        ensures answer { result ≡ next_of self.old.payload self.old.place }
+        ensures payload { self.new.payload ≡ self.old.payload }
+        ensures place { self.new.place ≡ place_after self.old.payload self.old.place }
+        ensures moves { IfOk result (λ o. OnSome o ((self.old.place + 4 ≤ self.new.place) × (self.new.place ≤ length self.old.payload))) }
+        ensures walked { Walked self.old.payload self.old.place self.new.place result }
     {
         let place = self.place;
-        if at_end(self.payload, place) {
+        if place >= self.payload.len() {
             return Ok(None);
         }
         let message = message_at(self.payload, place)?;

@@ -1,62 +1,43 @@
 // A packet to be sent, written into the caller's buffer: begun, given records, closed.
-ghost use Rattle.std.specs.Prelude.{◌≡◌, ◌+◌, ◌≤◌, true, List, length, take, IfOk, Ok};
+ghost use Rattle.std.specs.Prelude.{◌≡◌, ◌+◌, ◌≤◌, true, List, length, take, IfOk, Ok, OnOk};
 ghost use Rattle.kind.specs.Layout.{message_of, word_bytes};
-ghost use Rattle.packet.specs.Drafts.{ReadsBack, added, added_bytes, appended, appended_bytes, begun, begun_bytes, closed, closed_bytes, full, open_bytes, over, size_of};
+ghost use Rattle.packet.specs.Drafts.{ReadsBack, StandsAt, added, added_bytes, appended, appended_bytes, begun, begun_bytes, closed, closed_bytes, full, over, size_of};
 
-use crate::descriptor::{DESCRIPTOR_LEN, Descriptor, FRAME_ID, MAJOR_VERSION, PAYLOAD_MOST};
+use crate::descriptor::{DESCRIPTOR_LEN, Descriptor, MAJOR_VERSION, PAYLOAD_MOST};
 use crate::message::Record;
 use fault::{CallFault, Fault, FrameFault, MessageFault};
 use kind::{Control, EditValue, Event, Kind, RealValue, State, Temperature};
+use std::marker::Model;
 
-// A packet that still takes records. It is a number alone, moved from step to step, and the caller passes the buffer at each:
-// a draft that held the buffer would borrow it until it is closed.
+/// A packet that still takes records. It is a number alone, moved from step to step, and the caller passes the same buffer at each:
+/// a draft that held the buffer would borrow it until it is closed.
 #[derive(PartialEq, Eq, Debug, Drop)]
 pub struct Draft {
     behind: usize,
 }
 
-// A packet whose FrameLength is filled in. It takes no record: begin another draft.
+/// A packet whose FrameLength is filled in. It takes no record: begin another draft.
 #[derive(PartialEq, Eq, Debug, Drop)]
 pub struct Closed {
-    length: usize,
+    len: usize,
 }
 
-// The bytes of a descriptor whose FrameLength is 0.
-fn open_bytes(words: Descriptor) -> [u8; 16]
-    ensures { result ≡ open_bytes words }
-{
-    let [id_lo, id_hi] = FRAME_ID.to_le_bytes();
-    let [minor, major] = words.version.to_le_bytes();
-    let [number_lo, number_hi] = words.number.to_le_bytes();
-    let [project_lo, project_hi] = words.project.to_le_bytes();
-    let [firmware_lo, firmware_hi] = words.firmware.to_le_bytes();
-    let [switch_lo, switch_hi] = words.switch.to_le_bytes();
-    let [design_lo, design_hi] = words.design.to_le_bytes();
-    [
-        id_lo,
-        id_hi,
-        0,
-        0,
-        minor,
-        major,
-        number_lo,
-        number_hi,
-        project_lo,
-        project_hi,
-        firmware_lo,
-        firmware_hi,
-        switch_lo,
-        switch_hi,
-        design_lo,
-        design_hi,
-    ]
+impl Model for Closed {
+    ghost use Rattle.std.specs.Prelude.{ℕ};
+
+    ghost Value = { ℕ };
+
+    ghost view = { λ c. c.len };
+
+    ghost inverse = { λ n. record { len = n } };
 }
 
 // Writes a message of kind K at a place where it has room.
 fn write_at<K: Kind>(buf: &mut [u8], at: usize, actor: u16, record: K::Record)
     requires room { at + K.layout.size ≤ length buf.old }
     requires admitted { K.layout.admits actor ≡ true }
-    ensures { buf.new ≡ over buf.old at (message_of K.layout actor «record») }
+    ensures bytes { buf.new ≡ over buf.old at (message_of K.layout actor «record») }
+    ensures back { StandsAt K.layout actor «record» at buf.new }
 {
     let _ = kind::write::<K>(&mut buf[at..], actor, record).unwrap();
 }
@@ -72,7 +53,8 @@ impl Draft {
             || more as usize > room - DESCRIPTOR_LEN - self.behind
     }
 
-    // Begins a packet with these words, and writes its descriptor.
+    /// Begins a packet with these words, and writes its descriptor, with FrameLength 0, over the first sixteen bytes of the buffer.
+    /// Refused with 4 at 4 for a major version other than 2, then with 20 at 0 where the buffer is shorter; then the buffer stays as it was.
     pub fn begin(buf: &mut [u8], words: Descriptor) -> Result<Draft, Fault>
         ensures answer { result ≡ begun words buf.old }
         ensures bytes { buf.new ≡ begun_bytes words buf.old }
@@ -84,11 +66,12 @@ impl Draft {
         if buf.len() < DESCRIPTOR_LEN {
             return Err(Fault::Call(CallFault::ShortBuffer, 0));
         }
-        buf[0..DESCRIPTOR_LEN].copy_from_slice(&open_bytes(words));
+        buf[0..DESCRIPTOR_LEN].copy_from_slice(&words.open_bytes());
         Ok(Draft { behind: 0 })
     }
 
-    // Adds a message of kind K. A refusal gives the draft back, and nothing is written.
+    /// Adds a message of kind K, which reads back, masked, where it stands. Refused with 9 where the kind does not admit the actor, then with 20 past the buffer
+    /// or past 1,472 bytes, both at 0: that gives the draft back, and the buffer stays as it was.
     pub fn append<K: Kind>(
         self,
         buf: &mut [u8],
@@ -97,6 +80,7 @@ impl Draft {
     ) -> Result<Draft, (Fault, Draft)>
         ensures answer { result ≡ appended K.layout self actor buf.old }
         ensures bytes { buf.new ≡ appended_bytes K.layout self actor «record» buf.old }
+        ensures back { OnOk result (StandsAt K.layout actor «record» (size_of self) buf.new) }
     {
         if !K::admits(actor) {
             return Err((Fault::Message(MessageFault::ActorRule, 0), self));
@@ -110,7 +94,7 @@ impl Draft {
         })
     }
 
-    // Adds a record, whatever its kind.
+    /// Adds a record, whatever its kind, as `append` does.
     pub fn add(self, buf: &mut [u8], record: Record) -> Result<Draft, (Fault, Draft)>
         ensures answer { result ≡ added «record» self buf.old }
         ensures bytes { buf.new ≡ added_bytes «record» self buf.old }
@@ -136,27 +120,28 @@ impl Draft {
         buf[2..4].copy_from_slice(&length.to_le_bytes());
     }
 
-    // Closes the packet, which fills in its FrameLength. A refusal gives the draft back, and nothing is written.
+    /// Closes the packet, which fills in its FrameLength. Refused with 20 at 0 past the buffer or past 1,472 bytes: that gives the draft back, and the buffer
+    /// stays as it was.
     pub fn close(self, buf: &mut [u8]) -> Result<Closed, (Fault, Draft)>
         ensures answer { result ≡ closed self buf.old }
         ensures bytes { buf.new ≡ closed_bytes self buf.old }
-        ensures back { IfOk result (λ c. ReadsBack self buf.old (take c.length buf.new)) }
+        ensures back { IfOk result (λ length. ReadsBack self buf.old (take length buf.new)) }
     {
         if self.is_full(0, buf) {
             return Err((Fault::Call(CallFault::ShortBuffer, 0), self));
         }
         self.fill_length(buf);
         Ok(Closed {
-            length: DESCRIPTOR_LEN + self.behind,
+            len: DESCRIPTOR_LEN + self.behind,
         })
     }
 }
 
 impl Closed {
-    // How many bytes of the buffer are the packet.
+    /// How many bytes of the buffer are the packet.
     pub fn length(&self) -> usize
-        ensures { result ≡ self.now.length }
+        ensures { result ≡ self.now }
     {
-        self.length
+        self.len
     }
 }

@@ -8,10 +8,12 @@ use crate::descriptor::{DESCRIPTOR_LEN, Descriptor};
 use crate::message::Message;
 use fault::Fault;
 
-// What is known of an accepted payload; a `Cursor` gives its messages.
+/// What is known of an accepted payload; a `Cursor` gives its messages.
 #[derive(Clone, Copy, PartialEq, Eq, Debug)]
 pub struct Packet {
+    /// The words that it begins with.
     pub descriptor: Descriptor,
+    /// How many of its messages are of a known kind.
     pub understood: usize,
 }
 
@@ -49,7 +51,8 @@ fn law_of_the_grammar(_payload: &[u8])
 {}
 
 impl Packet {
-    // Reads a whole payload: its descriptor first, then each message, up to the first check that fails.
+    /// Reads a whole payload: its descriptor first, with refusals 1 to 4, then each message, with refusals 7, 8 and 9 at the message's first byte.
+    /// The first check that fails is told.
     pub fn read(payload: &[u8]) -> Result<Packet, Fault>
         ensures answer { result ≡ packet_of (reading_of payload.now) }
         ensures grammar { Grammar payload.now }

@@ -13,8 +13,8 @@ loop-place-preserved c =
     let items = c.args.switch.now.items in
     let from = c.loop-place.cursor.place in
     let to = c.next.new.self.place in
-    let moves = subst (λ o. IfSome o (λ _. (from + 4 ≤ to) × (to ≤ length c.loop-place.cursor.payload.now))) c.in-Some.is t.moves in
-    let walked = subst (λ (l : List ℕ). Walked l from to (Ok (Some (c.in-Some.place, c.in-Some.message)))) i.0 (subst (λ o. Walked c.loop-place.cursor.payload.now from to (Ok o)) c.in-Some.is t.walked) in
+    let moves = subst (λ o. IfSome o (λ _. (from + 4 ≤ to) × (to ≤ length c.loop-place.cursor.payload))) c.in-Some.is t.moves in
+    let walked = subst (λ (l : List ℕ). Walked l from to (Ok (Some (c.in-Some.place, c.in-Some.message)))) i.0 (subst (λ o. Walked c.loop-place.cursor.payload from to (Ok o)) c.in-Some.is t.walked) in
     let few = noted_few items c.in-Some.place c.in-Some.message c.loop-place.survey in
     let same = c.note.ensures in
     let long = ap length i.0 in (
@@ -34,5 +34,5 @@ returns c =
     let items = c.args.switch.now.items in
     let from = c.loop-place.cursor.place in
     let to = c.next.new.self.place in
-    let walked : messages_from c.args.payload.now from ≡ Ok [] = subst (λ (l : List ℕ). Walked l from to (Ok None)) i.0 (subst (λ o. Walked c.loop-place.cursor.payload.now from to (Ok o)) c.in_default.is t.walked) in
+    let walked : messages_from c.args.payload.now from ≡ Ok [] = subst (λ (l : List ℕ). Walked l from to (Ok None)) i.0 (subst (λ o. Walked c.loop-place.cursor.payload from to (Ok o)) c.in_default.is t.walked) in
     sym (onto_end items c.loop-place.survey) ∙ ap (λ r. onto c.loop-place.survey (survey_of items r)) (sym walked) ∙ i.3

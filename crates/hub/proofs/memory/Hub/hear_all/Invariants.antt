@@ -7,9 +7,9 @@ use Rattle.hub.proofs.memory.Hub.hear_all.Given as goal
 abbrev pub invariant-loop-message : goal.invariant-loop-message
 invariant-loop-message g l =
     let m = g.S.ActorStore.meaning in
-    (l.cursor.payload.now ≡ l.payload)
+    (l.cursor.payload ≡ l.payload)
     × (is_ok (messages_from l.payload l.cursor.place) ≡ true)
     × (heard_all l.id (messages_from l.payload l.cursor.place) (hub_model m l.self) ≡ heard_all l.id (messages_from l.payload 16) (hub_model m l.initial.self))
 
 abbrev pub decreases-loop-message : goal.decreases-loop-message
-decreases-loop-message g l = length l.cursor.payload.now - l.cursor.place
+decreases-loop-message g l = length l.cursor.payload - l.cursor.place
