@@ -20,4 +20,4 @@ pub mod Truth
 pub mod Quiet
 pub mod Settling
 pub mod Whole
-pub mod Exchange
+pub mod Runs

@@ -1,3 +1,4 @@
 pub mod Values
 pub mod World
 pub mod Law
+pub mod Runs
