@@ -1,8 +1,12 @@
 -- Slips: which are open, and how one is handed in: refused, it comes back and is still owed.
-use Rattle.std.specs.Prelude.{ℕ, Bool, false, Some, None, Ok, Err, Option, Result}
+use Rattle.std.specs.Prelude.{◌≡◌, ℕ, Bool, false, Some, None, Ok, Err, Option, Result, ◌==◌}
 use Rattle.fault.specs.declared.Fault.{Fault}
 use Rattle.model.specs.Models.{HubModel, Step, SwitchModel, find_switch, is_number}
 use Rattle.hub.specs.declared.slip.Slip.{Slip}
+
+-- a slip that may not be let go, since its destructor wants number 0
+abbrev pub Unspent : Slip → Type 0
+Unspent slip = (slip.number == 0) ≡ false
 
 abbrev pub slip_answer : Slip → Step Unit → Result Unit (Fault × Slip)
 slip_answer slip (Ok p) = Ok tt

@@ -1,9 +1,10 @@
 // Composing a packet for a switch.
-ghost use Rattle.std.specs.Prelude.{◌≡◌, Some};
+ghost use Rattle.std.specs.Prelude.{◌≡◌, Some, IfOk};
 ghost use Rattle.model.specs.Composing.{compose as compose_step, compose_for, composed_bytes, packet_over, words_for};
 ghost use Rattle.model.specs.Models.{hub_after};
 ghost use Rattle.hub.specs.Compositions.{composition, packet_length};
 ghost use Rattle.hub.specs.Memory.{hub_model};
+ghost use Rattle.hub.specs.Slips.{Unspent};
 
 use crate::memory::Hub;
 use crate::slip::Slip;
@@ -44,7 +45,7 @@ impl<S: ActorStore> Hub<S> {
     {
         Descriptor {
             version: self.site.version,
-            number: switch.numbers().next,
+            number: switch.next_number(),
             project: self.site.project,
             firmware: self.site.firmware,
             switch: switch.id(),
@@ -55,9 +56,10 @@ impl<S: ActorStore> Hub<S> {
     // Writes the packet for a switch, if its slip is in, something is outstanding and the buffer has room.
     fn write_for(&self, id: u16, switch: &Switch, buf: &mut [u8]) -> Result<Composed, Fault>
         ensures answer { result ≡ composition id (compose_for (hub_model S.meaning self.now) id buf.old switch.now) }
+        ensures unspent { IfOk result (λ composed. Unspent composed.slip) }
         ensures bytes { buf.new ≡ packet_over (hub_model S.meaning self.now) (Some switch.now) buf.old (compose_for (hub_model S.meaning self.now) id buf.old switch.now) }
     {
-        let number = switch.numbers().next;
+        let number = switch.next_number();
         if switch.numbers().slip.is_some() {
             return Err(Fault::Call(CallFault::SlipOpen, 0));
         }
@@ -80,6 +82,7 @@ impl<S: ActorStore> Hub<S> {
     pub fn compose(&mut self, id: u16, buf: &mut [u8]) -> Result<Composed, Fault>
         ensures answer { result ≡ composition id (compose_step (hub_model S.meaning self.old) id buf.old) }
         ensures after { hub_model S.meaning self.new ≡ hub_after (hub_model S.meaning self.old) (compose_step (hub_model S.meaning self.old) id buf.old) }
+        ensures unspent { IfOk result (λ composed. Unspent composed.slip) }
         ensures bytes { buf.new ≡ composed_bytes (hub_model S.meaning self.old) id buf.old }
     {
         let composed = self.write_for(id, self.enrolled(id)?, buf)?;

@@ -20,7 +20,7 @@ impl<S: ActorStore> Hub<S> {
     }
 
     // Spends a slip that is owed, and tells its switch. One that is not owed is handed back.
-    fn redeem(&self, slip: Slip) -> Result<u16, (Fault, Slip)>
+    fn redeem(&self, mut slip: Slip) -> Result<u16, (Fault, Slip)>
         ensures switch { IfOk result (λ id. id ≡ slip.switch) }
         ensures owed { OnOk result (owed (hub_model S.meaning self.now) slip ≡ true) }
         ensures not_owed { OnErr result (owed (hub_model S.meaning self.now) slip ≡ false) }
@@ -29,7 +29,8 @@ impl<S: ActorStore> Hub<S> {
         if !self.is_owed(&slip) {
             return Err((Fault::Call(CallFault::NoSlip, 0), slip));
         }
-        Ok(slip.spend())
+        slip.number = 0;
+        Ok(slip.switch)
     }
 
     // The packet was sent: its slip is closed. A slip that is not owed is handed back.

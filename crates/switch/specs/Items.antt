@@ -1,4 +1,4 @@
--- The items of a switch: every one names an actor, and no two the same one.
+-- What is true of every switch: each of its items names an actor, no two the same one, and its next package number is not 0.
 use Rattle.std.specs.Prelude.{◌≡◌, ℕ, Bool, true, false, not, ◌&&◌, ◌||◌, List, [], ◌∷◌, map, ◌==◌}
 use Rattle.store.specs.Lists.{lists}
 use Rattle.model.specs.declared.item.Item.{Item}
@@ -19,3 +19,8 @@ repeats (x ∷ xs) = lists xs x || repeats xs
 pub record LawfulItems (items : List Item) : Type 0 where
   pub named : all_named items ≡ true
   pub distinct : repeats (actors_of items) ≡ false
+
+-- what is true of every switch, by its items and the number of its next packet
+pub record LawfulSwitch (items : List Item) (next : ℕ) : Type 0 where
+  pub listed : LawfulItems items
+  pub numbered : (next == 0) ≡ false

@@ -1,5 +1,5 @@
 // What a switch can be asked, and how one begins.
-ghost use Rattle.std.specs.Prelude.{◌≡◌, ◌≤◌, true, false, ◌||◌, [], length, if◌then◌else◌, Some, None, nat_lt};
+ghost use Rattle.std.specs.Prelude.{◌≡◌, ◌≤◌, true, false, ◌||◌, [], length, if◌then◌else◌, Some, None, ◌==◌, nat_lt};
 ghost use Rattle.model.specs.Composing.{has_outstanding, outstanding_actors};
 ghost use Rattle.model.specs.Models.{lists_actor, mark_of_actor};
 ghost use Rattle.model.specs.Opening.{new_switch};
@@ -147,6 +147,14 @@ impl Switch {
         ensures { result ≡ self.now.numbers }
     {
         self.numbers
+    }
+
+    /// The number of the next packet, which is never 0.
+    pub fn next_number(&self) -> u16
+        ensures number { result ≡ self.now.numbers.next }
+        ensures never_zero { (result == 0) ≡ false }
+    {
+        self.numbers.next
     }
 
     // Whether the switch must still be told of anything, or has not answered yet.

@@ -16,14 +16,14 @@ pub struct Switch {
     pub(crate) report: Report,
 }
 
-// Every item names an actor, and no two the same one.
+// Every item names an actor, no two the same one, and no packet has number 0, which marks an event.
 impl Model for Switch {
     ghost use Rattle.model.specs.Models.{SwitchModel};
-    ghost use Rattle.switch.specs.Items.{LawfulItems};
+    ghost use Rattle.switch.specs.Items.{LawfulSwitch};
 
     ghost Value = { SwitchModel };
 
     ghost view = { λ s. record { id = s.id; items = s.items.items; control = s.control; mark = s.mark; numbers = s.numbers; report = s.report } };
 
-    ghost invariant = { λ s. LawfulItems s.items.items };
+    ghost invariant = { λ s. LawfulSwitch s.items.items s.numbers.next };
 }

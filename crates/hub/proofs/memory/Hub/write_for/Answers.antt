@@ -21,6 +21,7 @@ returns-then-buf-length g c =
     let told = compose_short h id buf m free some short in
     record {
       answer = sym (ap (composition id) told);
+      unspent = tt;
       bytes = sym (ap (packet_over h (Some m) buf) told);
     }
 

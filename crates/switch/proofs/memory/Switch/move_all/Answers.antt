@@ -5,4 +5,4 @@ use Rattle.switch.proofs.memory.Switch.move_all.Goals as goal
 
 pub invariant_of-self : goal.invariant_of-self
 invariant_of-self c =
-    kept_lawful (moved_item c.args.change) (λ x. refl) _ _ (c.move_all.ensures ∙ ap (map (moved_item c.args.change)) c.as_mut_slice.ensures.value) c.self.invariant
+    record { listed = kept_lawful (moved_item c.args.change) (λ x. refl) _ _ (c.move_all.ensures ∙ ap (map (moved_item c.args.change)) c.as_mut_slice.ensures.value) c.self.invariant.listed; numbered = c.self.invariant.numbered }

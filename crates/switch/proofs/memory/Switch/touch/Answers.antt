@@ -5,4 +5,4 @@ use Rattle.switch.proofs.memory.Switch.touch.Goals as goal
 
 pub invariant_of-self : goal.invariant_of-self
 invariant_of-self c =
-    kept_lawful (touched_item c.args.actor) (touched_actor c.args.actor) _ _ (c.touch.ensures ∙ ap (map (touched_item c.args.actor)) c.as_mut_slice.ensures.value) c.self.invariant
+    record { listed = kept_lawful (touched_item c.args.actor) (touched_actor c.args.actor) _ _ (c.touch.ensures ∙ ap (map (touched_item c.args.actor)) c.as_mut_slice.ensures.value) c.self.invariant.listed; numbered = c.self.invariant.numbered }
