@@ -45,19 +45,14 @@ fn count_behind(payload: &[u8]) -> Result<usize, Fault>
     count_understood(&payload[DESCRIPTOR_LEN..], DESCRIPTOR_LEN, 0)
 }
 
-// Nothing runs here: it only states the law at this payload, for `Packet::read` to promise.
-fn law_of_the_grammar(_payload: &[u8])
-    ensures { Grammar _payload.now }
-{}
-
 impl Packet {
     /// Reads a whole payload: its descriptor first, with refusals 1 to 4, then each message, with refusals 7, 8 and 9 at the message's first byte.
     /// The first check that fails is told.
+    #[tactic(auto, using(crate::proofs::Spelling::reading_is_grammar))]
     pub fn read(payload: &[u8]) -> Result<Packet, Fault>
         ensures answer { result ≡ packet_of (reading_of payload.now) }
         ensures grammar { Grammar payload.now }
     {
-        law_of_the_grammar(payload);
         let descriptor = Descriptor::read(payload)?;
         let understood = count_behind(payload)?;
         Ok(Packet {
