@@ -7,13 +7,13 @@ use crate::layout::{length_of, place_of, read_pair, read_word, write_value};
 use fault::{Fault, StoreFault};
 use store::{ActorStore, Half, check_value, is_forbidden};
 
-// Fixed memory: room for the largest block, zeros from the start. The block stands at the front, and no length lies beside it: its own Page.Count tells it.
+// Room for the largest block, zeros at first. The block stands at the front, and its own Page.Count tells its length.
 #[derive(Drop)]
 struct Block {
     bytes: [u8; 576],
 }
 
-// A lawful block.
+/// An actor store over a ControlBlock of 1 to 16 pages, whose bytes it keeps as they are: actors 1 to 4 for each page.
 #[derive(Drop)]
 pub struct Image {
     block: Block,
@@ -26,7 +26,8 @@ impl Image {
     ghost use Rattle.image.specs.Images.{block_of};
     ghost use Rattle.image.specs.Layout.{actor_answer, actors_of, has_actor, image_over, place_of, written};
 
-    // An image of a lawful block; refuses any other slice (21).
+    /// An image of a lawful block, whose bytes are copied. Refuses any other slice (21, at place 0): a lawful one has FrameID 0x7501,
+    /// 1 to 16 pages, 128 bytes and 28 for each page both by its FrameLength and in truth, and no forbidden value of an actor.
     pub fn open(block: &[u8]) -> Result<Image, Fault>
         ensures { meant block_of result ≡ image_over block.now }
     {
@@ -46,7 +47,8 @@ impl Image {
         Image { block: kept }
     }
 
-    // The block as it now is, which can be opened again.
+    /// The block as it now is, in its own length of 156 to 576 bytes; it can be opened again.
+    /// Each put that was not refused has replaced the two bytes of its value, and every other byte is as it was opened.
     pub fn block(&self) -> &[u8]
         ensures is { result.now ≡ block_of self.now }
         ensures opens { image_over (block_of self.now) ≡ Ok (block_of self.now) }
@@ -111,6 +113,7 @@ impl ActorStore for Image {
     }
 }
 
+// Whether an image may be opened over the bytes.
 fn is_lawful(block: &[u8]) -> bool
     ensures { result ≡ lawful_block block.now }
 {
@@ -138,6 +141,7 @@ fn has_lawful_values(block: &[u8]) -> bool
     (1..=4 * block[25] as u16).all(|actor| has_lawful_pair(block, actor))
 }
 
+// Whether neither value of an actor is forbidden.
 fn has_lawful_pair(block: &[u8], actor: u16) -> bool
     requires held { Holds block.now actor }
     ensures { result ≡ lawful_pair (Some (pair_at block.now actor)) }
@@ -146,6 +150,7 @@ fn has_lawful_pair(block: &[u8], actor: u16) -> bool
     !is_forbidden(actual) && !is_forbidden(target)
 }
 
+// Lays a block over the front of the room for it.
 fn copy_front(room: &mut [u8], block: &[u8])
     requires fits { length block.now ≤ length room.old }
     ensures { room.new ≡ block.now ++ drop (length block.now) room.old }

@@ -60,15 +60,6 @@ pair_after (Some p) false h v = Some (replaced h v p)
 abbrev pub after_put : Known → ℕ → Half → ℤ → Known
 after_put m a h v k = cond (k == a) (pair_after (m k) (forbidden v) h v) (m k)
 
-abbrev pub pair_back : Option (ℤ × ℤ) → Bool → Half → ℤ → Result (ℤ × ℤ) Fault
-pair_back None bad h v = Err unknown_actor
-pair_back (Some p) true h v = Err forbidden_value
-pair_back (Some p) false h v = Ok (replaced h v p)
-
--- a put, then a read of the same actor: the pair with the new value in its half
-abbrev pub read_back : Known → ℕ → Half → ℤ → Result (ℤ × ℤ) Fault
-read_back m a h v = pair_back (m a) (forbidden v) h v
-
 -- the answer of an opening, by what it gives
 abbrev pub meant : {A B : Type 0} → (A → B) → Result A Fault → Result B Fault
 meant f (Ok x) = Ok (f x)

@@ -7,7 +7,4 @@ mod value;
 
 pub use actor_store::{ActorStore, Half};
 pub use table::Table;
-
-pub mod readback;
-
 pub use value::{check_value, is_forbidden};

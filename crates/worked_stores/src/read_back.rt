@@ -1,12 +1,13 @@
-// A put, read back: code that knows of the store only what it means.
+// A value that is put into a store, read back: code that knows of the store only what it means, and so holds of every store.
 ghost use Rattle.std.specs.Prelude.{◌≡◌};
-ghost use Rattle.store.specs.Meaning.{after_put, read_back};
+ghost use Rattle.store.specs.Meaning.{after_put};
+ghost use Rattle.worked_stores.specs.ReadBack.{read_back};
 
-use crate::actor_store::{ActorStore, Half};
 use fault::Fault;
+use store::{ActorStore, Half};
 
 // Puts one value and answers the pair that the store then has, or the refusal.
-pub fn put_and_read<S: ActorStore>(
+pub(crate) fn put_and_read<S: ActorStore>(
     store: &mut S,
     actor: u16,
     half: Half,
