@@ -1,7 +1,10 @@
 -- Examples worked out by hand, as one fact about the definitions: what the hub's steps answer and leave, on given bytes.
 use Rattle.std.specs.Prelude.{◌≡◌, ℕ, ◌+◌, List, [], ◌∷◌, ◌++◌, length, take, replicate, pos, negsuc, Some, None, Ok, Err, Option, Result}
 use Rattle.fault.specs.declared.Fault.{Fault}
-use Rattle.fault.specs.Table.{number_of, place_of}
+use Rattle.fault.specs.declared.Fault.TheVariants.{Frame, Message, Call}
+use Rattle.fault.specs.declared.FrameFault.TheVariants as frame
+use Rattle.fault.specs.declared.MessageFault.TheVariants as message
+use Rattle.fault.specs.declared.CallFault.TheVariants as call
 use Rattle.image.specs.Layout as image
 use Rattle.kind.specs.Layout.{word_bytes}
 use Rattle.model.specs.declared.mark.Mark.TheVariants.{Settled, Due, UnderWay}
@@ -20,11 +23,6 @@ use Rattle.packet.specs.Messages.{message_of}
 use Rattle.store.specs.declared.actor_store.Half.TheVariants.{Actual, Target}
 use Rattle.store.specs.Lists.{zeros}
 use Rattle.store.specs.Meaning.{read_answer}
-
--- an answer, or the number and the place of the refusal
-abbrev pub told : {A : Type 0} → Result A Fault → Result A (ℕ × ℕ)
-told (Ok x) = Ok x
-told (Err e) = Err (number_of e, place_of e)
 
 -- The hub of the examples: actors 1 and 2 with values 0, switch 7 that lists both, and switch 8 that lists actor 2.
 
@@ -47,11 +45,11 @@ event_of version messages =
     ++ (0 ∷ 0 ∷ 0x34 ∷ 0x12 ∷ 0 ∷ 0 ∷ 7 ∷ 0 ∷ 5 ∷ 0 ∷ messages))
 
 -- what the hub tells of a payload
-abbrev pub taken : List ℕ → Result (Arrival × ℕ) (ℕ × ℕ)
-taken s = told (answer_of (take_payload hub s))
+abbrev pub taken : List ℕ → Result (Arrival × ℕ) Fault
+taken s = answer_of (take_payload hub s)
 
 -- what it tells of an event with these messages, and the hub then
-abbrev pub taken_with : List ℕ → Result (Arrival × ℕ) (ℕ × ℕ)
+abbrev pub taken_with : List ℕ → Result (Arrival × ℕ) Fault
 taken_with messages = taken (event_of 0x0201 messages)
 
 abbrev pub hub_with : List ℕ → HubModel
@@ -108,23 +106,23 @@ next_packet =
 abbrev pub awaited_at : HubModel → ℕ → Result (Option ℕ) Fault
 awaited_at h id = asked h id (λ m. Ok m.numbers.awaited)
 
--- "Event, n" is an event with n messages understood; "n, p" is refusal n at place p.
+-- "Event, n" is an event with n messages understood.
 pub record WorkedExamples : Type 0 where
   -- the hub stands: it opens, and enrols both switches
   pub opens : opened site (zeros (1 ∷ 2 ∷ [])) ≡ Ok empty
   pub enrols_switch7 : answer_of (enrol empty 7 (1 ∷ 2 ∷ [])) ≡ Ok tt
   pub enrols_switch8 : answer_of (enrol with_seven 8 (2 ∷ [])) ≡ Ok tt
   -- payloads: their lengths and their version
-  pub refuses15_bytes : taken (take 15 (event_of 0x0201 [])) ≡ Err (1, 0)
-  pub refuses1473_bytes : taken (event_of 0x0201 (replicate 1457 0)) ≡ Err (1, 0)
+  pub refuses15_bytes : taken (take 15 (event_of 0x0201 [])) ≡ Err (Frame frame.Length 0)
+  pub refuses1473_bytes : taken (event_of 0x0201 (replicate 1457 0)) ≡ Err (Frame frame.Length 0)
   pub takes_bare_descriptor : taken (event_of 0x0201 []) ≡ Ok (Event, 0)
   pub takes_version_02ff : taken (event_of 0x02FF []) ≡ Ok (Event, 0)
-  pub refuses_version_0300 : taken (event_of 0x0300 []) ≡ Err (4, 4)
+  pub refuses_version_0300 : taken (event_of 0x0300 []) ≡ Err (Frame frame.MajorVersion 4)
   -- messages
   pub passes_unknown_kind : taken_with (0x04 ∷ 0xF0 ∷ 0 ∷ 0 ∷ []) ≡ Ok (Event, 0)
-  pub refuses_broken_message : taken_with (0x03 ∷ 0xF0 ∷ 0 ∷ []) ≡ Err (7, 16)
-  pub refuses_length_of_kind : taken_with (0x08 ∷ 0x42 ∷ 1 ∷ 0 ∷ 0 ∷ 0 ∷ 0 ∷ 0 ∷ []) ≡ Err (8, 16)
-  pub refuses_actor0 : taken_with (0x06 ∷ 0x42 ∷ 0 ∷ 0 ∷ 0 ∷ 0 ∷ []) ≡ Err (9, 16)
+  pub refuses_broken_message : taken_with (0x03 ∷ 0xF0 ∷ 0 ∷ []) ≡ Err (Message message.Broken 16)
+  pub refuses_length_of_kind : taken_with (0x08 ∷ 0x42 ∷ 1 ∷ 0 ∷ 0 ∷ 0 ∷ 0 ∷ 0 ∷ []) ≡ Err (Message message.KindLength 16)
+  pub refuses_actor0 : taken_with (0x06 ∷ 0x42 ∷ 0 ∷ 0 ∷ 0 ∷ 0 ∷ []) ≡ Err (Message message.ActorRule 16)
   -- readings
   pub reads257 : message_of warm 16 ≡ Ok (Known (Temperature (Some (pos 257))))
   pub takes257 : taken_with warm ≡ Ok (Event, 1)
@@ -133,8 +131,8 @@ pub record WorkedExamples : Type 0 where
   pub takes_minus2 : taken_with cold ≡ Ok (Event, 1)
   pub keeps_minus2 : reading_at (hub_with cold) 7 ≡ Ok (Some (negsuc 1))
   -- control words
-  pub grants_control130 : told (answer_of (set_control hub 7 0x130)) ≡ Ok tt
-  pub refuses_control30 : told (answer_of (set_control hub 7 0x30)) ≡ Err (13, 0)
+  pub grants_control130 : answer_of (set_control hub 7 0x130) ≡ Ok tt
+  pub refuses_control30 : answer_of (set_control hub 7 0x30) ≡ Err (Call call.ControlWord 0)
   -- the image: four actors to a page
   pub actual_of_actor6 : image.place_of Actual 6 ≡ 164
   pub target_of_actor6 : image.place_of Target 6 ≡ 166

@@ -1,5 +1,7 @@
 -- More examples worked out by hand: what a settled switch tells, what is due all the same, and a packet that is withheld.
 use Rattle.std.specs.Prelude.{◌≡◌, ℕ, List, [], ◌∷◌, ◌++◌, pos, Some, None, Ok, Err}
+use Rattle.fault.specs.declared.Fault.TheVariants.{Call}
+use Rattle.fault.specs.declared.CallFault.TheVariants as call
 use Rattle.model.specs.declared.mark.Mark.TheVariants.{Settled, Due}
 use Rattle.model.specs.declared.told.Arrival.TheVariants.{Stale}
 use Rattle.model.specs.Composing.{compose, number_after, sent, withheld}
@@ -9,7 +11,7 @@ use Rattle.model.specs.Settings.{set_control, set_value}
 use Rattle.model.specs.Taking.{take_payload}
 use Rattle.store.specs.declared.actor_store.Half.TheVariants.{Actual}
 use Rattle.store.specs.Meaning.{read_answer}
-use Rattle.worked.specs.Examples.{answered, awaited_at, away, event_of, packet, room, told, warm, written}
+use Rattle.worked.specs.Examples.{answered, awaited_at, away, event_of, packet, room, warm, written}
 
 -- the hub after an event of switch 7 with these messages, once its actor 2 and its control word are settled
 abbrev pub told_by : List ℕ → HubModel
@@ -46,8 +48,8 @@ pub record StepExamples : Type 0 where
   pub withheld_actor : actor_mark brought_back 7 1 ≡ Ok Due
   pub withheld_control : control_mark brought_back 7 ≡ Ok Due
   pub withheld_awaits_nothing : awaited_at brought_back 7 ≡ Ok None
-  pub slip_spent : told (answer_of (sent brought_back 7 1)) ≡ Err (22, 0)
-  pub other_slip : told (answer_of (sent written 7 2)) ≡ Err (22, 0)
-  pub slip_open : told (answer_of (compose written 7 room)) ≡ Err (18, 0)
+  pub slip_spent : answer_of (sent brought_back 7 1) ≡ Err (Call call.NoSlip 0)
+  pub other_slip : answer_of (sent written 7 2) ≡ Err (Call call.NoSlip 0)
+  pub slip_open : answer_of (compose written 7 room) ≡ Err (Call call.SlipOpen 0)
   pub next_number : answer_of (compose brought_back 7 room) ≡ Ok (record { size = 48; actors = 2; number = 2 })
   pub number_round : number_after 65535 ≡ 1

@@ -1,6 +1,6 @@
 // Drafts, and how what they write reads back.
-use crate::payloads::{gives, refused};
-use fault::Fault;
+use crate::payloads::gives;
+use fault::{CallFault, Fault, FrameFault, MessageFault};
 use packet::{Cursor, Descriptor, Draft, Message, Packet, Record};
 use std::test::Fail;
 
@@ -52,16 +52,6 @@ fn packed(buf: &mut [u8]) -> Result<Draft, Fault> {
     Ok(draft)
 }
 
-// The number and the place of the refusal to begin a draft.
-fn unbegun(buf: &mut [u8], words: Descriptor) -> Option<(u8, usize)> {
-    Draft::begin(buf, words).err().map(refused)
-}
-
-// The number of the fault with which one more record is refused.
-fn refusal(draft: Draft, buf: &mut [u8], record: Record) -> Option<u8> {
-    added(draft, buf, record).err().map(|fault| fault.number())
-}
-
 #[test]
 fn full_refresh(rt: HostRuntime) -> Result<(), Fail> {
     let mut buf = [0; 1472];
@@ -96,36 +86,25 @@ fn refusals(rt: HostRuntime) -> Result<(), Fail> {
         version: 0x0300,
         ..WORDS
     };
-    assert_eq!(rt; unbegun(&mut buf, major), Some((4, 4)));
-    assert_eq!(rt; unbegun(&mut buf[0..15], WORDS), Some((20, 0)));
+    assert_eq!(rt;
+        Draft::begin(&mut buf, major).err(),
+        Some(Fault::Frame(FrameFault::MajorVersion, 4))
+    );
+    assert_eq!(rt;
+        Draft::begin(&mut buf[0..15], WORDS).err(),
+        Some(Fault::Call(CallFault::ShortBuffer, 0))
+    );
     assert!(rt; buf == [7; 21]);
-    let draft = Draft::begin(&mut buf, WORDS)?;
-    let begun = buf;
-    assert_eq!(rt;
-        refusal(
-            draft,
-            &mut buf,
-            Record::EditValue {
-                actor: 0,
-                target: 1,
-            },
-        ),
-        Some(9)
-    );
-    assert!(rt; buf == begun);
-    let draft = Draft::begin(&mut buf, WORDS)?;
-    assert_eq!(rt;
-        refusal(
-            draft,
-            &mut buf,
-            Record::EditValue {
-                actor: 1,
-                target: 1,
-            },
-        ),
-        Some(20)
-    );
-    assert!(rt; buf == begun);
+    for (actor, refusal) in [
+        (0, Fault::Message(MessageFault::ActorRule, 0)),
+        (1, Fault::Call(CallFault::ShortBuffer, 0)),
+    ] {
+        let draft = Draft::begin(&mut buf, WORDS)?;
+        let begun = buf;
+        let edit = Record::EditValue { actor, target: 1 };
+        assert_eq!(rt; added(draft, &mut buf, edit).err(), Some(refusal));
+        assert!(rt; buf == begun);
+    }
     Ok(())
 }
 
@@ -137,7 +116,7 @@ fn longest(rt: HostRuntime) -> Result<(), Fail> {
     let Err((fault, full)) = full.add(&mut buf, Record::Event { actor: 1, key: 1 }) else {
         return Err(Fail::new("the draft has grown past a payload's most"));
     };
-    assert_eq!(rt; fault.number(), 20);
+    assert_eq!(rt; fault, Fault::Call(CallFault::ShortBuffer, 0));
     assert_eq!(rt; closed(full, &mut buf)?, 1472);
     assert_eq!(rt; Packet::read(&buf[0..1472])?.understood, 182);
     Ok(())

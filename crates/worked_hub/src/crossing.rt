@@ -1,7 +1,7 @@
 // Packets that cross on the cable, and package numbers that go round.
-use crate::house::*;
-use crate::sending::send;
-use fault::Fault;
+use crate::house::{STRANGER, house, marks};
+use crate::sent::{Sent, send};
+use fault::{CallFault, Fault};
 use hub::Hub;
 use model::{Arrival, Mark};
 use std::test::Fail;
@@ -13,24 +13,38 @@ fn crossing(rt: HostRuntime) -> Result<(), Fail> {
     let mut hub = house()?;
     let mut packet = [0; 48];
     hub.set_target(1, 220)?;
-    assert_eq!(rt; send(&mut hub, 7, &mut packet)?, (48, 2, 1));
+    assert_eq!(rt;
+        send(&mut hub, 7, &mut packet)?,
+        Sent {
+            length: 48,
+            actors: 2,
+            number: 1
+        }
+    );
     assert_eq!(rt;
         &packet[22..28],
         [0x06_u8, 0x42, 0x01, 0x00, 0xDC, 0x00].as_slice()
     );
-    assert_eq!(rt; marks(&hub, 7, (1, 2))?, [Mark::UnderWay; 3]);
+    assert_eq!(rt; marks(&hub, 7, [1, 2])?, [Mark::UnderWay; 3]);
     hub.set_target(1, 230)?;
     assert_eq!(rt;
-        marks(&hub, 7, (1, 2))?,
+        marks(&hub, 7, [1, 2])?,
         [Mark::Due, Mark::UnderWay, Mark::UnderWay]
     );
-    assert_eq!(rt; told(&mut hub, &packet), Ok((Arrival::Answer, 5)));
+    assert_eq!(rt; hub.take(&packet), Ok((Arrival::Answer, 5)));
     assert_eq!(rt;
-        marks(&hub, 7, (1, 2))?,
+        marks(&hub, 7, [1, 2])?,
         [Mark::Due, Mark::Settled, Mark::Settled]
     );
     let mut next = [0xFF; 30];
-    assert_eq!(rt; send(&mut hub, 7, &mut next)?, (28, 1, 2));
+    assert_eq!(rt;
+        send(&mut hub, 7, &mut next)?,
+        Sent {
+            length: 28,
+            actors: 1,
+            number: 2
+        }
+    );
     assert_eq!(rt;
         &next[16..30],
         [
@@ -38,9 +52,12 @@ fn crossing(rt: HostRuntime) -> Result<(), Fail> {
         ]
         .as_slice()
     );
-    assert_eq!(rt; told(&mut hub, &next[0..28]), Ok((Arrival::Answer, 2)));
-    assert!(rt; !hub.has_outstanding(7)?);
-    assert_eq!(rt; refused(send(&mut hub, 7, &mut next)), Some((19, 0)));
+    assert_eq!(rt; hub.take(&next[0..28]), Ok((Arrival::Answer, 2)));
+    assert_eq!(rt; hub.has_outstanding(7), Ok(false));
+    assert_eq!(rt;
+        send(&mut hub, 7, &mut next),
+        Err(Fault::Call(CallFault::NothingOutstanding, 0))
+    );
     Ok(())
 }
 
@@ -49,8 +66,7 @@ fn send_often(hub: &mut Hub<Table>, times: u16, packet: &mut [u8]) -> Result<u16
     let mut last = 0;
     // repeats a step that can fail; nothing is counted
     for _ in 0..times {
-        let (_, _, number) = send(hub, 8, packet)?;
-        last = number;
+        last = send(hub, 8, packet)?.number;
     }
     Ok(last)
 }
@@ -61,8 +77,16 @@ fn numbers_go_round(rt: HostRuntime) -> Result<(), Fail> {
     let mut hub = house()?;
     let mut packet = [0; 48];
     assert_eq!(rt; send_often(&mut hub, 65_534, &mut packet)?, 65_534);
-    assert_eq!(rt; send(&mut hub, 8, &mut packet)?, (48, 2, 65_535));
-    assert_eq!(rt; send(&mut hub, 8, &mut packet)?, (48, 2, 1));
+    for number in [65_535, 1] {
+        assert_eq!(rt;
+            send(&mut hub, 8, &mut packet)?,
+            Sent {
+                length: 48,
+                actors: 2,
+                number
+            }
+        );
+    }
     Ok(())
 }
 
@@ -70,8 +94,20 @@ fn numbers_go_round(rt: HostRuntime) -> Result<(), Fail> {
 fn short_buffer(rt: HostRuntime) -> Result<(), Fail> {
     let mut hub = house()?;
     let mut short = [0xFF; 47];
-    assert_eq!(rt; refused(send(&mut hub, 7, &mut short)), Some((20, 0)));
-    assert_eq!(rt; short[0], 0xFF);
-    assert_eq!(rt; refused(send(&mut hub, 9, &mut short)), Some((6, 0)));
+    assert_eq!(rt;
+        send(&mut hub, 7, &mut short),
+        Err(Fault::Call(CallFault::ShortBuffer, 0))
+    );
+    assert!(rt; short == [0xFF; 47]);
+    assert_eq!(rt; send(&mut hub, 9, &mut short), Err(STRANGER));
+    // neither took a number
+    assert_eq!(rt;
+        send(&mut hub, 7, &mut [0; 48])?,
+        Sent {
+            length: 48,
+            actors: 2,
+            number: 1
+        }
+    );
     Ok(())
 }

@@ -1,14 +1,16 @@
-// Worked examples of the hub: every expected value follows from the rules by hand.
+// Worked examples of the hub: every expected value follows from the protocol by hand.
 #![tactic(auto)]
 
 #[cfg(test)]
-mod asking;
-#[cfg(test)]
 mod crossing;
+#[cfg(test)]
+mod enrolment;
 #[cfg(test)]
 mod house;
 #[cfg(test)]
-mod opening;
-mod sending;
+mod payloads;
 #[cfg(test)]
-mod taking;
+mod questions;
+mod sent;
+#[cfg(test)]
+mod settings;

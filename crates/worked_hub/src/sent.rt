@@ -3,12 +3,19 @@ use fault::Fault;
 use hub::{Composed, Hub};
 use store::ActorStore;
 
-// The packet's length, how many actors it carries, and its number.
+// A packet that was sent: its length in bytes, how many actors it carries, and its number.
+#[derive(Clone, Copy, PartialEq, Eq, Debug)]
+pub(crate) struct Sent {
+    pub(crate) length: usize,
+    pub(crate) actors: usize,
+    pub(crate) number: u16,
+}
+
 pub(crate) fn send<S: ActorStore>(
     hub: &mut Hub<S>,
     id: u16,
     buf: &mut [u8],
-) -> Result<(usize, usize, u16), Fault> {
+) -> Result<Sent, Fault> {
     let Composed {
         length,
         actors,
@@ -16,5 +23,9 @@ pub(crate) fn send<S: ActorStore>(
     } = hub.compose(id, buf)?;
     let number = slip.number();
     hub.sent(slip).unwrap();
-    Ok((length, actors, number))
+    Ok(Sent {
+        length,
+        actors,
+        number,
+    })
 }

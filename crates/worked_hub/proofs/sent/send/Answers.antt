@@ -1,6 +1,6 @@
 use Rattle.hub.specs.Memory.{hub_model}
 use Rattle.hub.proofs.Owed.{accepted}
-use Rattle.worked_hub.proofs.sending.send.Goals as goal
+use Rattle.worked_hub.proofs.sent.send.Goals as goal
 
 pub unwrap-requires : goal.unwrap-requires
 unwrap-requires g c =
