@@ -1,5 +1,6 @@
 -- The first line of a text and what follows it, and all of its lines.
-use Rattle.std.specs.Prelude.{◌≡◌, ℕ, suc, ◌+◌, ◌<◌, cond, ◌⊎◌, List, [], ◌∷◌, ◌++◌, length, take, drop, ◌==◌, ◌≢◌, slice_index}
+use Rattle.std.specs.Prelude.{◌≡◌, ℕ, suc, ◌+◌, ◌<◌, cond, ◌⊎◌, List, [], ◌∷◌, ◌++◌, length, take, drop, Some, None, Option, ◌==◌, ◌≢◌, slice_index}
+use Rattle.std.specs.Option.{option_map}
 
 abbrev pub line_feed : ℕ
 line_feed = 10
@@ -19,6 +20,14 @@ line_of text = take (line_length text) text
 
 abbrev pub rest_of : List ℕ → List ℕ
 rest_of text = drop (line_length text + 1) text
+
+-- the first line and what follows it; an empty text has no line
+abbrev pub next_line : List ℕ → Option (List ℕ × List ℕ)
+next_line [] = None
+next_line (b ∷ text) = Some (line_of (b ∷ text), rest_of (b ∷ text))
+
+abbrev pub first_line : List ℕ → Option (List ℕ)
+first_line text = option_map (λ p. p.0) (next_line text)
 
 abbrev pub Without : ℕ → List ℕ → Type 0
 Without b text = (k : ℕ) → k < length text → slice_index text k ≢ b

@@ -2,10 +2,8 @@
 #![tactic(auto)]
 
 mod digit;
+mod digits;
 mod lines;
-mod reading;
-mod writing;
 
+pub use digits::{Digits, decode, encode};
 pub use lines::{Lines, length_to, next_line};
-pub use reading::decode;
-pub use writing::{Digits, encode};

@@ -1,13 +1,14 @@
 // A text taken apart line by line.
-ghost use Rattle.std.specs.Prelude.{◌≡◌, ℕ, ◌<◌, ◌≤◌, List, length, MatchOption};
-ghost use Rattle.std.specs.Iterator.{YieldsFirstRef, at_most};
-ghost use Rattle.hexadecimal.specs.Lines.{length_to, line_of, rest_of, lines_of, FirstLine, LineByLine, Shorter};
+ghost use Rattle.std.specs.Prelude.{◌≡◌, ℕ, ◌<◌, ◌≤◌, ⊤, List, length, MatchOption};
+ghost use Rattle.std.specs.Iterator.{MakesProgress, YieldsFirstRef, at_most};
+ghost use Rattle.std.specs.Option.{option_map};
+ghost use Rattle.hexadecimal.specs.Lines.{FirstLine, LineByLine, Shorter, first_line, length_to, line_of, lines_of, next_line, rest_of};
 
 use std::marker::Model;
 
 const LINE_FEED: u8 = b'\n';
 
-// How many bytes stand before the first separator; the whole length where there is none.
+/// How many bytes stand before the first separator; the whole length where there is none.
 pub fn length_to(text: &[u8], separator: u8) -> usize
     ensures answer { result ≡ length_to separator text.now }
     ensures within { result ≤ length text.now }
@@ -34,14 +35,13 @@ fn cut(text: &[u8]) -> (&[u8], &[u8])
     }
 }
 
-// The first line of a text, without its line feed, and what follows it. Only a line feed ends a line, the
-// last line may lack it, and an empty text has no line.
+/// The first line of a text, without its line feed, and what follows it. Only a line feed ends a line, the last
+/// line may lack it, and an empty text has no line.
 pub fn next_line(text: &[u8]) -> Option<(&[u8], &[u8])>
-    ensures parts { MatchOption result (length text.now ≡ 0) (λ p. (0 < length text.now) × (p.0.now ≡ line_of text.now) × (p.1.now ≡ rest_of text.now)) }
+    ensures answer { option_map (λ p. (p.0.now, p.1.now)) result ≡ next_line text.now }
     ensures first { MatchOption result (length text.now ≡ 0) (λ p. FirstLine text.now p.0.now p.1.now) }
     ensures shorter { MatchOption result (length text.now ≡ 0) (λ p. Shorter text.now p.0.now p.1.now) }
 {
-    // an `if`, since `then` over a closure says the same in as many words
     if text.is_empty() {
         None
     } else {
@@ -49,7 +49,8 @@ pub fn next_line(text: &[u8]) -> Option<(&[u8], &[u8])>
     }
 }
 
-// The lines of a text, first to last, as `next_line` takes them off. What a contract sees of it is the text that is left.
+/// The lines of a text, first to last, as `next_line` takes them off. What a contract sees of it is the text that
+/// is left.
 #[derive(Clone, Debug, Drop)]
 pub struct Lines<'a> {
     left: &'a [u8],
@@ -62,6 +63,7 @@ impl<'a> Model for Lines<'a> {
 }
 
 impl<'a> Lines<'a> {
+    /// The lines of that text, none of them taken yet.
     #[tactic(auto, using(crate::proofs::Fronts::lines_step))]
     pub fn new(text: &'a [u8]) -> Lines<'a>
         ensures text { result ≡ text.now }
@@ -70,7 +72,7 @@ impl<'a> Lines<'a> {
         Lines { left: text }
     }
 
-    // The text behind the lines that were taken so far.
+    /// The text behind the lines that were taken so far.
     pub fn rest(&self) -> &'a [u8]
         ensures { result.now ≡ self.now }
     {
@@ -86,8 +88,14 @@ impl<'a> Iterator for Lines<'a> {
     // There are no more lines than bytes.
     ghost remaining = { λ text. at_most (length text) };
 
+    /// Takes the first line off the text that is left. Of an empty text there is none, and it stays empty.
     #[tactic(auto, using(crate::proofs::Fronts::lines_step, crate::proofs::Fronts::lines_none))]
-    fn next(&mut self) -> Option<&'a [u8]> {
+    fn next(&mut self) -> Option<&'a [u8]>
+        ensures steps { YieldsFirstRef lines_of self.old result self.new }
+        ensures goes { MakesProgress (λ _. ⊤) (λ text. at_most (length text)) self.old result self.new }
+        ensures line { option_map (λ line. line.now) result ≡ first_line self.old }
+        ensures left { self.new ≡ rest_of self.old }
+    {
         let (line, rest) = next_line(self.left)?;
         self.left = rest;
         Some(line)

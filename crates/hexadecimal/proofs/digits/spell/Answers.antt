@@ -3,7 +3,7 @@ use Rattle.std.proofs.lemmas.List.{length-take-le, take_all, take_at}
 use Rattle.hexadecimal.specs.Encoding.{digits_of}
 use Rattle.hexadecimal.proofs.Pairs.{length_digits_of, digits_more, both_written}
 use Rattle.hexadecimal.proofs.Spelling.{digits_spell, reads_back}
-use Rattle.hexadecimal.proofs.writing.spell.Goals as goal
+use Rattle.hexadecimal.proofs.digits.spell.Goals as goal
 
 pub loop-i-init : goal.loop-i-init
 unfolding digits_of

@@ -3,7 +3,7 @@ use borrow.Author.Tests.{tests}
 use Rattle.std.proofs.lemmas.Iterator.{YieldsList-from_slice}
 use Rattle.std.proofs.lemmas.Iterator.Search.{position_from_yields_List}
 use Rattle.hexadecimal.proofs.Fronts.{digits_found, place_or_length}
-use Rattle.hexadecimal.proofs.reading.digits_ahead.Goals as goal
+use Rattle.hexadecimal.proofs.digits.digits_ahead.Goals as goal
 
 pub returns : goal.returns
 returns c =

@@ -2,7 +2,7 @@ use Rattle.std.proofs.Common.{rules}
 use Rattle.std.proofs.Output.{has_written_append, has_written_of_eq}
 use Rattle.hexadecimal.specs.Encoding.{digits_of}
 use Rattle.hexadecimal.proofs.Shown.{shown_more}
-use Rattle.hexadecimal.proofs.writing.DigitsDisplay.fmt.Goals as goal
+use Rattle.hexadecimal.proofs.digits.DigitsDisplay.fmt.Goals as goal
 
 pub loop-byte-init : goal.loop-byte-init
 unfolding digits_of

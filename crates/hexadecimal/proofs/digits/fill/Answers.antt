@@ -4,7 +4,7 @@ use Rattle.std.specs.Simd.{first_chunks}
 use Rattle.hexadecimal.specs.Digit.{value_of}
 use Rattle.hexadecimal.specs.Decoding.{bytes_of}
 use Rattle.hexadecimal.proofs.Pairs.{length_bytes_of, byte_of_pair}
-use Rattle.hexadecimal.proofs.reading.fill.Goals as goal
+use Rattle.hexadecimal.proofs.digits.fill.Goals as goal
 
 pub loop-i-preserved : goal.loop-i-preserved
 loop-i-preserved c =
