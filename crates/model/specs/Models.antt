@@ -1,4 +1,4 @@
--- The hub as the rules see it: its opening words, its switches in order of enrolment, and what its store means.
+-- What a hub keeps: its opening words, its switches in order of enrolment, and what its store means.
 use Rattle.std.specs.Prelude.{ℕ, Bool, false, cond, ◌||◌, List, [], ◌∷◌, map, Some, None, Ok, Err, Option, Result, ◌==◌, nat_eq}
 use Rattle.std.specs.Option.{option_eq}
 use Rattle.fault.specs.declared.Fault.{Fault}

@@ -4,26 +4,33 @@ ghost use Rattle.model.specs.Marks.{is_outstanding, mark_name, moved};
 
 use std::fmt;
 
-// Settled: the switch has it. Due: it must be told. Under way: it was told, and its answer has not come.
+/// How a switch stands to an item, an actor or its control word.
 #[derive(Clone, Copy, PartialEq, Eq, Debug, Default)]
 pub enum Mark {
+    /// The switch has it.
     #[default]
     Settled,
+    /// The switch must be told.
     Due,
+    /// The switch was told, and its answer has not come.
     UnderWay,
 }
 
-// What can happen to an item.
+/// What can happen to an item.
 #[derive(Clone, Copy, PartialEq, Eq, Debug)]
 pub enum Change {
+    /// A value or the control word was set, or the switch asked for everything: the item is due.
     Changed,
+    /// A packet with everything outstanding was composed: what is due is under way.
     Composed,
+    /// The awaited answer came: what is under way is settled. What became due meanwhile stays due.
     Answered,
+    /// The packet was withheld: what is under way is due again.
     Withheld,
 }
 
 impl Mark {
-    // Moves the mark in place.
+    /// Moves the mark in place by what happened, and leaves it where that does not concern it.
     pub fn note(&mut self, change: Change)
         ensures { self.new ≡ moved self.old change }
     {
@@ -36,7 +43,7 @@ impl Mark {
         };
     }
 
-    // Whether the switch must still be told, or has not answered yet.
+    /// Whether the item is due or under way: the switch must be told of it, or has not answered yet.
     pub fn is_outstanding(self) -> bool
         ensures { result ≡ is_outstanding self }
     {

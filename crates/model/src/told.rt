@@ -4,11 +4,14 @@ ghost use Rattle.model.specs.Taking.{arrival_name};
 
 use std::fmt;
 
-// What an accepted packet was: an event, the answer that was awaited, or any other answer.
+/// What an accepted payload was.
 #[derive(Clone, Copy, PartialEq, Eq, Debug)]
 pub enum Arrival {
+    /// An event: PackageID 0.
     Event,
+    /// The answer that was awaited.
     Answer,
+    /// Any other answer. It changed nothing.
     Stale,
 }
 
@@ -24,34 +27,46 @@ impl fmt::Display for Arrival {
     }
 }
 
-// The key last pressed at a switch, and the actor that it is for.
+/// A key pressed at a switch, and the actor that it is for.
 #[derive(Clone, Copy, PartialEq, Eq, Debug)]
 pub struct KeyPress {
+    /// The ActorID.
     pub actor: u16,
+    /// The key's number.
     pub key: u8,
 }
 
-// What a switch last reported of itself.
+/// What a switch last reported of itself.
 #[derive(Clone, Copy, PartialEq, Eq, Debug)]
 pub struct Report {
+    /// The flags of its latest State, masked; 0 before the first.
     pub flags: u32,
+    /// The key last pressed, if any was.
     pub key: Option<KeyPress>,
+    /// The temperature in tenths of a degree, if its latest Temperature had one.
     pub reading: Option<i16>,
 }
 
-// The numbers of a switch's packets: the next one's, that of the answer awaited, and that of the open slip.
+/// The numbers (PackageIDs, 1 to 65,535) of a switch's packets.
 #[derive(Clone, Copy, PartialEq, Eq, Debug)]
 pub struct Numbers {
+    /// That of the next packet.
     pub next: u16,
+    /// That of the answer which is awaited, if one is.
     pub awaited: Option<u16>,
+    /// That of the packet whose slip is open, if one is.
     pub slip: Option<u16>,
 }
 
-// The words that every packet of this hub has in its descriptor.
+/// The words that a hub is opened with: every packet that it writes has them in its descriptor.
 #[derive(Clone, Copy, PartialEq, Eq, Debug)]
 pub struct Site {
+    /// FrameVersion: the major version in the high byte, which must be 2, and the minor one in the low byte.
     pub version: u16,
+    /// ProjectID: a hub takes payloads of its own project only.
     pub project: u16,
+    /// FirmwareVersion.
     pub firmware: u16,
+    /// DesignID.
     pub design: u16,
 }
