@@ -15,9 +15,8 @@ use Rattle.law.proofs.Elements.{err≢ok}
 use Rattle.law.proofs.Granted.{compose_is}
 use Rattle.law.proofs.Switches.{KeepsId, find_at_other, find_at_same}
 use Rattle.hub.specs.Compositions.{composition}
-use Rattle.hub.specs.declared.composing.Composed.{Composed}
-use Rattle.hub.specs.declared.slip.Slip.{Slip}
-use Rattle.hub.specs.Slips.{owed, owed_by, slip_in}
+use Rattle.hub.specs.declared.composition.Composed.{Composed}
+use Rattle.hub.specs.Slips.{SlipModel, owed, owed_by, slip_in}
 use Rattle.hub.proofs.Kept.{SameSlips, slips_control, slips_enrol, slips_take, slips_value, vacant}
 use Rattle.bench_hub.specs.declared.call.Fate.{Fate}
 use Rattle.bench_hub.specs.declared.call.Fate.TheVariants.{Kept, Sent, Withheld}
@@ -28,10 +27,10 @@ use Rattle.bench_hub.specs.Playing.{Scene, applied, handed_in, placed}
 
 -- what one hub has open, the other has too
 abbrev pub StillOwed : HubModel → HubModel → Type 0
-StillOwed h g = (x : Slip) → owed h x ≡ true → owed g x ≡ true
+StillOwed h g = (x : SlipModel) → owed h x ≡ true → owed g x ≡ true
 
 -- whether a slip is owed lies in the slip that its switch has open
-owed_out : (x : Slip) (o : Option SwitchModel) → owed_by x o ≡ is_number (slip_in o) x.number
+owed_out : (x : SlipModel) (o : Option SwitchModel) → owed_by x o ≡ is_number (slip_in o) x.number
 owed_out x None = refl
 owed_out x (Some m) = refl
 
@@ -58,7 +57,7 @@ after_plain h (plain.Outstanding switch) body x e = e
 -- Composing, for a switch that has no slip open.
 
 -- a step of that switch alone
-elsewhere : (h g : HubModel) (id : ℕ) → ((x : Slip) → x.switch ≡ id → owed h x ≡ true → ⊥) → ((s : ℕ) → (id ≡ s → ⊥) → find_switch s g.switches ≡ find_switch s h.switches) → StillOwed h g
+elsewhere : (h g : HubModel) (id : ℕ) → ((x : SlipModel) → x.switch ≡ id → owed h x ≡ true → ⊥) → ((s : ℕ) → (id ≡ s → ⊥) → find_switch s g.switches ≡ find_switch s h.switches) → StillOwed h g
 elsewhere h g id none same x e = ⊎_elim (λ q. absurd (none x (sym q) e)) (λ d. ap (owed_by x) (same x.switch d) ∙ e) (cases_eq id x.switch)
 
 -- handing a slip in to its switch leaves the others as they are
@@ -71,17 +70,17 @@ others f k g id n (Some m) s d = go (is_number m.numbers.slip n)
     go true = find_at_other id s f k d g.switches
     go false = refl
 
-others_handed : (fate : Fate) (g : HubModel) (x : Slip) (s : ℕ) → (x.switch ≡ s → ⊥) → find_switch s (hub_after g (handed_in fate g x)).switches ≡ find_switch s g.switches
+others_handed : (fate : Fate) (g : HubModel) (x : SlipModel) (s : ℕ) → (x.switch ≡ s → ⊥) → find_switch s (hub_after g (handed_in fate g x)).switches ≡ find_switch s g.switches
 others_handed Sent g x s d = others closed_slip (λ m. refl) g x.switch x.number (find_switch x.switch g.switches) s d
 others_handed Kept g x s d = others brought_back (λ m. refl) g x.switch x.number (find_switch x.switch g.switches) s d
 others_handed Withheld g x s d = others brought_back (λ m. refl) g x.switch x.number (find_switch x.switch g.switches) s d
 
 -- a hub takes a slip that it has open
-taken : (f : SwitchModel → SwitchModel) (h : HubModel) (x : Slip) (o : Option SwitchModel) → owed_by x o ≡ true → is_ok (hand_in f h x.switch x.number o) ≡ true
+taken : (f : SwitchModel → SwitchModel) (h : HubModel) (x : SlipModel) (o : Option SwitchModel) → owed_by x o ≡ true → is_ok (hand_in f h x.switch x.number o) ≡ true
 taken f h x None e = absurd (true≢false (sym e))
 taken f h x (Some m) e = ap (λ (b : Bool). is_ok (cond {A = Step Unit} b (Ok (tt, change_switch x.switch f h)) (Err (fault.Call NoSlip 0)))) e
 
-pub accepted : (fate : Fate) (h : HubModel) (x : Slip) → owed h x ≡ true → is_ok (handed_in fate h x) ≡ true
+pub accepted : (fate : Fate) (h : HubModel) (x : SlipModel) → owed h x ≡ true → is_ok (handed_in fate h x) ≡ true
 accepted Sent h x e = taken closed_slip h x (find_switch x.switch h.switches) e
 accepted Kept h x e = taken brought_back h x (find_switch x.switch h.switches) e
 accepted Withheld h x e = taken brought_back h x (find_switch x.switch h.switches) e
@@ -95,7 +94,7 @@ module _ (h : HubModel) (id : ℕ) (buf : List ℕ) (c : Composition) (g : HubMo
       let at = ap (λ (k : HubModel). find_switch id k.switches) i.after ∙ find_at_same id composed (λ x. refl) h.switches ∙ ap (option_map composed) i.enrolled in
       ap (owed_by (record { switch = id; number = c.number })) at ∙ ap (λ (n : ℕ). is_number (composed m).numbers.slip n) i.number ∙ eq-eqb m.numbers.next m.numbers.next refl
 
-  none : (x : Slip) → x.switch ≡ id → owed h x ≡ true → ⊥
+  none : (x : SlipModel) → x.switch ≡ id → owed h x ≡ true → ⊥
   none x q o =
       let here = ap (λ (n : ℕ). owed_by x (find_switch n h.switches)) (sym q) ∙ o in
       true≢false (sym here ∙ owed_out x (find_switch id h.switches) ∙ ap (λ (n : Option ℕ). is_number n x.number) (vacant h id buf (find_switch id h.switches) (c, g) e))
@@ -110,9 +109,9 @@ module _ (h : HubModel) (id : ℕ) (buf : List ℕ) (c : Composition) (g : HubMo
   still_handed fate =
       elsewhere h (hub_after g (handed_in fate g (record { switch = id; number = c.number }))) id none (λ s d. others_handed fate g (record { switch = id; number = c.number }) s d ∙ same s d)
 
-  placed_owed : (fate : Fate) (kept : Option Slip) → ForSome kept (λ x. owed h x ≡ true)
+  placed_owed : (fate : Fate) (kept : Option SlipModel) → ForSome kept (λ x. owed h x ≡ true)
       → ForSome (placed fate (record { switch = id; number = c.number }) g kept).kept (λ x. owed (placed fate (record { switch = id; number = c.number }) g kept).hub x ≡ true)
-  placed_owed Kept None k y q = let same : record { switch = id; number = c.number } ≡ y = cc in subst (λ (z : Slip). owed g z ≡ true) same fresh
+  placed_owed Kept None k y q = let same : record { switch = id; number = c.number } ≡ y = cc in subst (λ (z : SlipModel). owed g z ≡ true) same fresh
   placed_owed Kept (Some z) k y q = still_handed Withheld y (k y q)
   placed_owed Sent kept k y q = still_handed Sent y (k y q)
   placed_owed Withheld kept k y q = still_handed Withheld y (k y q)
@@ -128,10 +127,10 @@ issued h id buf told g answer now = go (compose h id buf) refl answer now
     go (Ok p) q a n =
         ap (λ (t : Composed). owed g t.slip) (same_answer _ _ a) ∙ ap (λ (k : HubModel). owed k (record { switch = id; number = p.0.number })) n ∙ fresh h id buf p.0 p.1 q
 
-abbrev PlacedOwed : Fate → Option Slip → Slip → HubModel → Type 0
+abbrev PlacedOwed : Fate → Option SlipModel → SlipModel → HubModel → Type 0
 PlacedOwed fate kept x h = ForSome (placed fate x h kept).kept (λ y. owed (placed fate x h kept).hub y ≡ true)
 
-pub kept_owed : (fate : Fate) (h : HubModel) (id : ℕ) (buf : List ℕ) (kept : Option Slip) (told : Composed) (g : HubModel)
+pub kept_owed : (fate : Fate) (h : HubModel) (id : ℕ) (buf : List ℕ) (kept : Option SlipModel) (told : Composed) (g : HubModel)
     → Ok told ≡ composition id (compose h id buf) → g ≡ hub_after h (compose h id buf) → ForSome kept (λ x. owed h x ≡ true)
     → ForSome (placed fate told.slip g kept).kept (λ x. owed (placed fate told.slip g kept).hub x ≡ true)
 kept_owed fate h id buf kept told g answer now k = go (compose h id buf) refl answer now

@@ -10,8 +10,8 @@ use Rattle.model.specs.Opening.{enrol}
 use Rattle.model.specs.Questions.{actor_mark, control_mark, flags_of, key_of, outstanding_at, reading_at}
 use Rattle.model.specs.Settings.{set_control, set_value}
 use Rattle.model.specs.Taking.{take_payload}
-use Rattle.hub.specs.declared.composing.Composed.{Composed}
-use Rattle.hub.specs.declared.slip.Slip.{Slip}
+use Rattle.hub.specs.declared.composition.Composed.{Composed}
+use Rattle.hub.specs.Slips.{SlipModel}
 use Rattle.hub.specs.Compositions.{composition}
 use Rattle.bench_hub.specs.declared.call.Call.{Call}
 use Rattle.bench_hub.specs.declared.call.Call.TheVariants.{Plain, Compose, HandIn, HandToStranger}
@@ -45,7 +45,7 @@ applied h (plain.Reading switch) body = (outcome_of reading_told (reading_at h s
 applied h (plain.Outstanding switch) body = (outcome_of outstanding_told (outstanding_at h switch), h)
 
 -- handing a slip in: as sent, or else as withheld
-abbrev pub handed_in : Fate → HubModel → Slip → Step Unit
+abbrev pub handed_in : Fate → HubModel → SlipModel → Step Unit
 handed_in Sent h x = sent h x.switch x.number
 handed_in Kept h x = withheld h x.switch x.number
 handed_in Withheld h x = withheld h x.switch x.number
@@ -53,13 +53,13 @@ handed_in Withheld h x = withheld h x.switch x.number
 -- How things stand: the hub, and the slip that is kept.
 pub record Scene : Type 0 where
   pub hub : HubModel
-  pub kept : Option Slip
+  pub kept : Option SlipModel
 
-abbrev pub scene : HubModel → Option Slip → Scene
+abbrev pub scene : HubModel → Option SlipModel → Scene
 scene h kept = record { hub = h; kept = kept }
 
 -- A slip that was just composed: one that is to be kept is, where no other is, and else it is handed in.
-abbrev pub placed : Fate → Slip → HubModel → Option Slip → Scene
+abbrev pub placed : Fate → SlipModel → HubModel → Option SlipModel → Scene
 placed Kept x h None = scene h (Some x)
 placed Kept x h (Some y) = scene (hub_after h (handed_in Withheld h x)) (Some y)
 placed Sent x h kept = scene (hub_after h (handed_in Sent h x)) kept
@@ -70,21 +70,21 @@ abbrev pub told_composed : Result Composed Fault → Outcome
 told_composed (Ok c) = Done (told_in (c.length % 65536) (c.actors % 65536) c.slip.number)
 told_composed (Err e) = Refused e
 
-abbrev pub after_composed : Fate → HubModel → Option Slip → Result Composed Fault → Scene
+abbrev pub after_composed : Fate → HubModel → Option SlipModel → Result Composed Fault → Scene
 after_composed fate h kept (Ok c) = placed fate c.slip h kept
 after_composed fate h kept (Err e) = scene h kept
 
 -- Handing in the kept slip. It is one that the hub has open, so that the hub takes it, and none is kept then.
-abbrev pub told_handed : Fate → HubModel → Option Slip → Outcome
+abbrev pub told_handed : Fate → HubModel → Option SlipModel → Outcome
 told_handed fate h None = Idle
 told_handed fate h (Some x) = outcome_of unit_told (answer_of (handed_in fate h x))
 
-abbrev pub after_handed : Fate → HubModel → Option Slip → HubModel
+abbrev pub after_handed : Fate → HubModel → Option SlipModel → HubModel
 after_handed fate h None = h
 after_handed fate h (Some x) = hub_after h (handed_in fate h x)
 
 -- another hub, which has enrolled no switch, refuses it, and it stays kept
-abbrev pub told_stranger : Option Slip → Outcome
+abbrev pub told_stranger : Option SlipModel → Outcome
 told_stranger None = Idle
 told_stranger (Some x) = Refused (fault.Call NoSlip 0)
 

@@ -5,9 +5,8 @@ use Rattle.fault.specs.declared.Fault.{Fault}
 use Rattle.model.specs.Composing.{Composition, compose, sent}
 use Rattle.model.specs.Models.{HubModel, Step, hub_after}
 use Rattle.hub.specs.Compositions.{composition}
-use Rattle.hub.specs.declared.composing.Composed.{Composed}
-use Rattle.hub.specs.declared.slip.Slip.{Slip}
-use Rattle.hub.specs.Slips.{slip_answer}
+use Rattle.hub.specs.declared.composition.Composed.{Composed}
+use Rattle.hub.specs.Slips.{SlipModel, slip_answer}
 use Rattle.packet.proofs.Spelling.{same_answer}
 use Rattle.law.proofs.Elements.{err≢ok}
 use Rattle.law.proofs.Granted.{slip_is_owed}
@@ -23,11 +22,11 @@ owed h id buf told after answer now = go (compose h id buf) refl answer now
         ∙ ap (λ (k : HubModel). is_ok (sent k id x.0.number)) s
         ∙ slip_is_owed h id buf x.0 x.1 q
 
-granted : (slip : Slip) (s : Step Unit) (r : Result Unit (Fault × Slip)) → is_ok s ≡ true → r ≡ slip_answer slip s → IsOk r
+granted : (slip : SlipModel) (s : Step Unit) (r : Result Unit (Fault × SlipModel)) → is_ok s ≡ true → r ≡ slip_answer slip s → IsOk r
 granted slip (Ok p) r k e = search rules
 granted slip (Err f) r k e = search rules
 
 -- so the hub takes it
 pub accepted : (h : HubModel) (id : ℕ) (buf : List ℕ) (told : Composed) (after : HubModel) → Ok told ≡ composition id (compose h id buf) → after ≡ hub_after h (compose h id buf)
-    → (r : Result Unit (Fault × Slip)) → r ≡ slip_answer told.slip (sent after told.slip.switch told.slip.number) → IsOk r
+    → (r : Result Unit (Fault × SlipModel)) → r ≡ slip_answer told.slip (sent after told.slip.switch told.slip.number) → IsOk r
 accepted h id buf told after answer now r e = granted told.slip (sent after told.slip.switch told.slip.number) r (owed h id buf told after answer now) e

@@ -9,7 +9,7 @@ use Rattle.packet.specs.Walking.{ahead}
 use Rattle.model.specs.declared.item.Item.{Item}
 use Rattle.model.specs.Models.{HubModel}
 use Rattle.model.specs.Taking.{first_unlisted, heard, heard_message, message_listed}
-use Rattle.hub.specs.declared.taking.Survey.{Survey}
+use Rattle.hub.specs.declared.arrival.Survey.{Survey}
 use Rattle.hub.specs.Surveys.{heard_all, noted, survey_of}
 
 -- a survey so far, and that of what is left

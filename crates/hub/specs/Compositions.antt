@@ -4,7 +4,7 @@ use Rattle.fault.specs.declared.Fault.{Fault}
 use Rattle.model.specs.Composing.{Composition, outstanding_actors}
 use Rattle.model.specs.Marks.{is_outstanding}
 use Rattle.model.specs.Models.{Step, SwitchModel}
-use Rattle.hub.specs.declared.composing.Composed.{Composed}
+use Rattle.hub.specs.declared.composition.Composed.{Composed}
 
 -- the descriptor, twelve bytes for each outstanding actor, and eight for an outstanding control word
 abbrev pub packet_length : SwitchModel → ℕ

@@ -4,7 +4,7 @@ use Rattle.fault.specs.declared.Fault.{Fault}
 use Rattle.model.specs.Models.{HubModel}
 use Rattle.store.specs.declared.actor_store.ActorStore.{Ghosts}
 use Rattle.store.specs.Meaning.{Known}
-use Rattle.hub.specs.declared.memory.Hub.{Hub}
+use Rattle.hub.specs.declared.hub.Hub.{Hub}
 
 abbrev pub hub_model : {S : Type 0} {store : Ghosts S} → (S → Known) → Hub S store → HubModel
 hub_model meaning h = record { site = h.site; switches = h.switches.items; store = meaning h.store }

@@ -2,22 +2,26 @@
 use Rattle.std.specs.Prelude.{◌≡◌, ℕ, Bool, false, Some, None, Ok, Err, Option, Result, ◌==◌}
 use Rattle.fault.specs.declared.Fault.{Fault}
 use Rattle.model.specs.Models.{HubModel, Step, SwitchModel, find_switch, is_number}
-use Rattle.hub.specs.declared.slip.Slip.{Slip}
+
+-- A slip: the SwitchID and the number of the packet that it is for.
+pub record SlipModel : Type 0 where
+  pub switch : ℕ
+  pub number : ℕ
 
 -- a slip that may not be let go, since its destructor wants number 0
-abbrev pub Unspent : Slip → Type 0
+abbrev pub Unspent : SlipModel → Type 0
 Unspent slip = (slip.number == 0) ≡ false
 
-abbrev pub slip_answer : Slip → Step Unit → Result Unit (Fault × Slip)
+abbrev pub slip_answer : SlipModel → Step Unit → Result Unit (Fault × SlipModel)
 slip_answer slip (Ok p) = Ok tt
 slip_answer slip (Err e) = Err (e, slip)
 
-abbrev pub owed_by : Slip → Option SwitchModel → Bool
+abbrev pub owed_by : SlipModel → Option SwitchModel → Bool
 owed_by slip None = false
 owed_by slip (Some m) = is_number m.numbers.slip slip.number
 
 -- whether the hub has this slip open
-abbrev pub owed : HubModel → Slip → Bool
+abbrev pub owed : HubModel → SlipModel → Bool
 owed h slip = owed_by slip (find_switch slip.switch h.switches)
 
 -- the number of the slip that a switch has open, if it has one

@@ -9,7 +9,7 @@ use Rattle.packet.specs.Walking.{ahead}
 use Rattle.model.specs.declared.item.Item.{Item}
 use Rattle.model.specs.Models.{HubModel}
 use Rattle.model.specs.Taking.{first_unlisted, heard, message_listed}
-use Rattle.hub.specs.declared.taking.Survey.{Survey}
+use Rattle.hub.specs.declared.arrival.Survey.{Survey}
 
 abbrev pub survey_of : List Item → Result (List (ℕ × Message)) Fault → Result Survey Fault
 survey_of items (Ok ms) = Ok (record { understood = understood ms; unlisted = first_unlisted items ms })

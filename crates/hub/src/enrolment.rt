@@ -7,7 +7,7 @@ ghost use Rattle.arrayvec.specs.ArrayVec.{array_vec_len};
 ghost use Rattle.hub.specs.Memory.{hub_model};
 ghost use Rattle.switch.specs.Items.{repeats};
 
-use crate::memory::Hub;
+use crate::hub::Hub;
 use fault::{CallFault, Fault, StoreFault};
 use store::ActorStore;
 use switch::{MOST_ACTORS, Switch};

@@ -1,19 +1,15 @@
 // The hub: the controller's end of the line, over any actor store.
 #![tactic(auto)]
 
-mod changing;
-mod composing;
+mod arrival;
+mod composition;
 mod enrolment;
-mod handing_in;
-mod memory;
-mod opening;
+mod hub;
 mod questions;
-mod row;
+mod refresh;
 mod settings;
 mod slip;
-mod taking;
-mod writing;
 
-pub use composing::Composed;
-pub use memory::Hub;
+pub use composition::Composed;
+pub use hub::Hub;
 pub use slip::Slip;

@@ -3,7 +3,7 @@ ghost use Rattle.std.specs.Prelude.{◌≡◌};
 ghost use Rattle.model.specs.Questions.{actor_mark, control_mark, flags_of, key_of, outstanding_at, reading_at};
 ghost use Rattle.hub.specs.Memory.{hub_model};
 
-use crate::memory::Hub;
+use crate::hub::Hub;
 use fault::{ActorFault, Fault};
 use model::{KeyPress, Mark};
 use store::ActorStore;

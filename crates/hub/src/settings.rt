@@ -5,7 +5,7 @@ ghost use Rattle.model.specs.Settings.{lawful_control, set_control, set_value};
 ghost use Rattle.store.specs.declared.actor_store.Half.TheVariants.{Actual, Target};
 ghost use Rattle.hub.specs.Memory.{hub_model};
 
-use crate::memory::Hub;
+use crate::hub::Hub;
 use fault::{CallFault, Fault};
 use kind::CONTROL_BITS;
 use store::{ActorStore, Half};

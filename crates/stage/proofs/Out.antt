@@ -22,9 +22,8 @@ use Rattle.law.proofs.Granted.{compose_is}
 use Rattle.law.proofs.Switches.{KeepsId, one_step}
 use Rattle.hub.specs.Compositions.{composition}
 use Rattle.hub.specs.Memory.{handed_back}
-use Rattle.hub.specs.declared.composing.Composed.{Composed}
-use Rattle.hub.specs.declared.slip.Slip.{Slip}
-use Rattle.hub.specs.Slips.{slip_in, slip_out}
+use Rattle.hub.specs.declared.composition.Composed.{Composed}
+use Rattle.hub.specs.Slips.{SlipModel, slip_in, slip_out}
 use Rattle.hub.proofs.Kept.{SameSlips, slips_control, slips_enrol, slips_take, slips_value, vacant}
 use Rattle.stage.specs.Slips.{HoldsAll, SameOut, handed_in, numbers_for}
 use Rattle.stage.specs.declared.slips.Fate.{Fate}
@@ -37,12 +36,12 @@ holds_new site store s = refl
 -- Steps that keep every switch's slip.
 
 -- a hub that has out what another has
-holds_still : (h g : HubModel) (slips : List Slip) → ((s : ℕ) → slip_out g s ≡ slip_out h s) → HoldsAll h slips → HoldsAll g slips
+holds_still : (h g : HubModel) (slips : List SlipModel) → ((s : ℕ) → slip_out g s ≡ slip_out h s) → HoldsAll h slips → HoldsAll g slips
 holds_still h g slips e all s = all s ∙ ap option_to_list (sym (e s))
 
 -- Composing: the new slip is behind the others.
 
-numbers_append : (s : ℕ) (a b : List Slip) → numbers_for s (a ++ b) ≡ numbers_for s a ++ numbers_for s b
+numbers_append : (s : ℕ) (a b : List SlipModel) → numbers_for s (a ++ b) ≡ numbers_for s a ++ numbers_for s b
 unfolding numbers_for
 numbers_append s [] b = refl
 numbers_append s (x ∷ a) b = go (eqb x.switch s) (numbers_append s a b)
@@ -52,7 +51,7 @@ numbers_append s (x ∷ a) b = go (eqb x.switch s) (numbers_append s a b)
     go true ih = ap (λ (l : List ℕ). x.number ∷ l) ih
     go false ih = ih
 
-holds_issued : (h : HubModel) (id : ℕ) (buf : List ℕ) (slips : List Slip) (c : Composition) (g : HubModel) → HoldsAll h slips → compose h id buf ≡ Ok (c, g)
+holds_issued : (h : HubModel) (id : ℕ) (buf : List ℕ) (slips : List SlipModel) (c : Composition) (g : HubModel) → HoldsAll h slips → compose h id buf ≡ Ok (c, g)
     → HoldsAll g (slips ++ record { switch = id; number = c.number } ∷ [])
 unfolding numbers_for
 holds_issued h id buf slips c g all e s =
@@ -65,7 +64,7 @@ holds_issued h id buf slips c g all e s =
     (λ t. append-nil (numbers_for t slips) ∙ all t) here s
     ∙ ap (λ (k : HubModel). option_to_list (slip_out k s)) (sym i.after)
 
-pub holds_compose : (h : HubModel) (id : ℕ) (buf : List ℕ) (slips : List Slip) (told : Composed) (after : HubModel) → HoldsAll h slips
+pub holds_compose : (h : HubModel) (id : ℕ) (buf : List ℕ) (slips : List SlipModel) (told : Composed) (after : HubModel) → HoldsAll h slips
     → Ok told ≡ composition id (compose h id buf) → after ≡ hub_after h (compose h id buf) → HoldsAll after (slips ++ told.slip ∷ [])
 holds_compose h id buf slips told after all answer now = go (compose h id buf) refl answer now
   where
@@ -86,7 +85,7 @@ alone (x ∷ xs) ys n None e = absurd (cons≢nil e)
 alone (x ∷ []) ys n (Some m) e = absurd (cons≢nil {x = n} {xs = ys} (cc))
 alone (x ∷ y ∷ xs) ys n (Some m) e = absurd (cons≢nil {x = y} {xs = xs ++ n ∷ ys} (cc))
 
-module _ (h : HubModel) (a b : List Slip) (x : Slip) (all : HoldsAll h (a ++ x ∷ b)) where
+module _ (h : HubModel) (a b : List SlipModel) (x : SlipModel) (all : HoldsAll h (a ++ x ∷ b)) where
   between : (s : ℕ) → numbers_for s a ++ cond (eqb x.switch s) (x.number ∷ numbers_for s b) (numbers_for s b) ≡ option_to_list (slip_out h s)
   unfolding numbers_for
   between s = sym (numbers_append s a (x ∷ b)) ∙ all s
@@ -139,15 +138,15 @@ module _ (h : HubModel) (a b : List Slip) (x : Slip) (all : HoldsAll h (a ++ x �
   left Withheld = handed_left brought_back (λ m. refl) (λ m. refl)
 
 -- the same hub and the same slips under other names
-pub holds_as : (h g : HubModel) (xs ys : List Slip) → g ≡ h → ys ≡ xs → HoldsAll h xs → HoldsAll g ys
+pub holds_as : (h g : HubModel) (xs ys : List SlipModel) → g ≡ h → ys ≡ xs → HoldsAll h xs → HoldsAll g ys
 holds_as h g xs ys e q all s = ap (numbers_for s) q ∙ all s ∙ ap (λ (k : HubModel). option_to_list (slip_out k s)) (sym e)
 
 -- the slip at a place, among the others
-module _ (h : HubModel) (xs : List Slip) (i : ℕ) (x : Slip) (l : i < length xs) (e : x ≡ get_or xs i x) (all : HoldsAll h xs) where
+module _ (h : HubModel) (xs : List SlipModel) (i : ℕ) (x : SlipModel) (l : i < length xs) (e : x ≡ get_or xs i x) (all : HoldsAll h xs) where
   holds_around : HoldsAll h (take i xs ++ x ∷ drop (suc i) xs)
   holds_around =
       holds_as h h xs (take i xs ++ x ∷ drop (suc i) xs) refl
-      (ap (λ (y : Slip). take i xs ++ y ∷ drop (suc i) xs) e ∙ ap (λ (ys : List Slip). take i xs ++ ys) (sym (drop-cons xs i x l)) ∙ take-append-drop i xs) all
+      (ap (λ (y : SlipModel). take i xs ++ y ∷ drop (suc i) xs) e ∙ ap (λ (ys : List SlipModel). take i xs ++ ys) (sym (drop-cons xs i x l)) ∙ take-append-drop i xs) all
 
   pub owed_at : (fate : Fate) → is_ok (handed_in fate h x) ≡ true
   owed_at = owed h (take i xs) (drop (suc i) xs) x holds_around

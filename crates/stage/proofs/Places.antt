@@ -5,11 +5,11 @@ use Rattle.std.specs.List.{position, position_or_len}
 use Rattle.std.proofs.lemmas.List.Quantifiers.{position-Some}
 use Rattle.std.proofs.lemmas.Bool.{and_parts, cond_below, eqb-true}
 use Rattle.std.proofs.lemmas.Bool.Decides.{nat_tests}
-use Rattle.hub.specs.declared.slip.Slip.{Slip}
+use Rattle.hub.specs.Slips.{SlipModel}
 use Rattle.stage.specs.Slips.{is_for, place_for}
 
 -- the place of the slip for a packet is where `position` finds it
-pub place_found : (switch number : ℕ) (slips : List Slip) → place_for switch number slips ≡ position (is_for switch number) slips
+pub place_found : (switch number : ℕ) (slips : List SlipModel) → place_for switch number slips ≡ position (is_for switch number) slips
 unfolding place_for
 place_found switch number [] = refl
 place_found switch number (x ∷ slips) = go (is_for switch number x) (place_found switch number slips)
@@ -37,7 +37,7 @@ place_found switch number (x ∷ slips) = go (is_for switch number x) (place_fou
         ∙ ap₂ (λ (t : Bool) (k : ℕ). cond t (Some k) None) (up here (length slips)) (one here)
 
 -- the slip at the place that was found is the one that was looked for
-pub place_is : (switch number : ℕ) (slips : List Slip) (i : ℕ) (d : Slip) → place_for switch number slips ≡ Some i → get_or slips i d ≡ record { switch = switch; number = number }
+pub place_is : (switch number : ℕ) (slips : List SlipModel) (i : ℕ) (d : SlipModel) → place_for switch number slips ≡ Some i → get_or slips i d ≡ record { switch = switch; number = number }
 place_is switch number slips i d e =
     let x = get_or slips i d in
     let there = position-Some (is_for switch number) slips i d (sym (place_found switch number slips) ∙ e) in

@@ -8,7 +8,7 @@ use Rattle.model.specs.Models.{HubModel, hub_after}
 use Rattle.model.specs.Opening.{enrol}
 use Rattle.model.specs.Settings.{set_control, set_value}
 use Rattle.model.specs.Taking.{take_payload}
-use Rattle.hub.specs.declared.slip.Slip.{Slip}
+use Rattle.hub.specs.Slips.{SlipModel}
 use Rattle.script.specs.Calls as call
 use Rattle.script.specs.Calls.{Said, call_in}
 use Rattle.script.specs.Passing.{passed_over}
@@ -37,7 +37,7 @@ Composes done s buf h g = (number : ℕ) × Keeps done s number (hub_after h (co
 
 -- A call leaves the hub so, with these slips at hand before it: as the step of its name does, and a question as it was.
 -- done: whether the program goes on
-abbrev pub Leaves : Said → Bool → List Slip → HubModel → HubModel → Type 0
+abbrev pub Leaves : Said → Bool → List SlipModel → HubModel → HubModel → Type 0
 Leaves (call.enrol s list) done slips h g = g ≡ hub_after h (enrol h s list)
 Leaves (call.actual a v) done slips h g = g ≡ hub_after h (set_value h a Actual v)
 Leaves (call.target a v) done slips h g = g ≡ hub_after h (set_value h a Target v)
@@ -56,7 +56,7 @@ Leaves (call.reading s) done slips h g = g ≡ h
 -- what a line makes of the hub: one that is passed over or is no call leaves it as it was
 abbrev pub MakesCall : Option Said → HubModel → HubModel → Type 0
 MakesCall None h g = g ≡ h
-MakesCall (Some c) h g = (slips : List Slip) × HoldsAll h slips × Leaves c true slips h g
+MakesCall (Some c) h g = (slips : List SlipModel) × HoldsAll h slips × Leaves c true slips h g
 
 abbrev pub Makes : List ℕ → HubModel → HubModel → Type 0
 Makes line h g = ((passed_over line ≡ true) × (g ≡ h)) ⊎ ((passed_over line ≡ false) × MakesCall (call_in line) h g)

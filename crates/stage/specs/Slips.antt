@@ -3,34 +3,33 @@ use Rattle.std.specs.Prelude.{◌≡◌, ℕ, suc, Bool, cond, ◌&&◌, List, [
 use Rattle.std.specs.Option.{option_map, option_to_list}
 use Rattle.model.specs.Composing as composing
 use Rattle.model.specs.Models.{HubModel, Step, hub_after}
-use Rattle.hub.specs.declared.slip.Slip.{Slip}
-use Rattle.hub.specs.Slips.{slip_out}
+use Rattle.hub.specs.Slips.{SlipModel, slip_out}
 use Rattle.stage.specs.declared.slips.Fate.{Fate}
 use Rattle.stage.specs.declared.slips.Fate.TheVariants.{Sent, Withheld}
 
 -- the numbers of the slips for one switch, in order
-unfoldable pub numbers_for : ℕ → List Slip → List ℕ
+unfoldable pub numbers_for : ℕ → List SlipModel → List ℕ
 numbers_for s [] = []
 numbers_for s (x ∷ slips) = cond (x.switch == s) (x.number ∷ numbers_for s slips) (numbers_for s slips)
 
 -- the slips at hand are those that the hub has out, and no other
-abbrev pub HoldsAll : HubModel → List Slip → Type 0
+abbrev pub HoldsAll : HubModel → List SlipModel → Type 0
 HoldsAll h slips = (s : ℕ) → numbers_for s slips ≡ option_to_list (slip_out h s)
 
 -- a hub that has out what it had, whichever slips that were
 abbrev pub SameOut : HubModel → HubModel → Type 0
-SameOut h g = (slips : List Slip) → HoldsAll h slips → HoldsAll g slips
+SameOut h g = (slips : List SlipModel) → HoldsAll h slips → HoldsAll g slips
 
-abbrev pub is_for : ℕ → ℕ → Slip → Bool
+abbrev pub is_for : ℕ → ℕ → SlipModel → Bool
 is_for switch number x = x.switch == switch && x.number == number
 
 -- where the slip for a packet stands among those at hand, if it is there
-unfoldable pub place_for : ℕ → ℕ → List Slip → Option ℕ
+unfoldable pub place_for : ℕ → ℕ → List SlipModel → Option ℕ
 place_for switch number [] = None
 place_for switch number (x ∷ slips) = cond (is_for switch number x) (Some 0) (option_map suc (place_for switch number slips))
 
 -- what handing a slip in is to the hub, by what became of its packet
-abbrev pub handed_in : Fate → HubModel → Slip → Step Unit
+abbrev pub handed_in : Fate → HubModel → SlipModel → Step Unit
 handed_in Sent h x = composing.sent h x.switch x.number
 handed_in Withheld h x = composing.withheld h x.switch x.number
 

@@ -2,7 +2,7 @@
 ghost use Rattle.std.specs.Prelude.{◌≡◌, Bool, List, is_ok};
 ghost use Rattle.hub.specs.Memory.{hub_model};
 ghost use Rattle.script.specs.Calls.{said};
-ghost use Rattle.hub.specs.declared.slip.Slip.{Slip};
+ghost use Rattle.hub.specs.Slips.{SlipModel};
 ghost use Rattle.stage.specs.Calls.{Composes, Leaves, Plain, TakesTelling};
 ghost use Rattle.stage.specs.Slips.{SameOut, handed_for, place_for};
 ghost use Rattle.stage.specs.Telling.{asks};
@@ -46,7 +46,7 @@ fn ask<S: ActorStore>(hub: &Hub<S>, call: &Call<'_>) -> Option<Result<Told, Faul
 // Settings, what switches send, and questions: calls that open and close no slip.
 fn apply<S: ActorStore>(rt: &impl Print, hub: &mut Hub<S>, call: Call<'_>) -> io::Result<()>
     ensures out { SameOut (hub_model S.meaning hub.old) (hub_model S.meaning hub.new) }
-    ensures leaves { Plain (said call.entry) → (done : Bool) (slips : List Slip) → Leaves (said call.entry) done slips (hub_model S.meaning hub.old) (hub_model S.meaning hub.new) }
+    ensures leaves { Plain (said call.entry) → (done : Bool) (slips : List SlipModel) → Leaves (said call.entry) done slips (hub_model S.meaning hub.old) (hub_model S.meaning hub.new) }
 {
     match call {
         Call::Enrol { switch, actors } => tell_done(rt, hub.enrol(switch, actors.entries())),

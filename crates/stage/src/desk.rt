@@ -2,7 +2,7 @@
 ghost use Rattle.std.specs.Prelude.{◌≡◌, ◌+◌, ◌<◌, [], vec_len, slice_index_or};
 ghost use Rattle.model.specs.Models.{hub_after};
 ghost use Rattle.hub.specs.Memory.{hub_model};
-ghost use Rattle.hub.specs.declared.slip.Slip.{Slip};
+ghost use Rattle.hub.specs.Slips.{SlipModel};
 ghost use Rattle.stage.specs.Slips.{HoldsAll, handed_in};
 
 use crate::slips::{Fate, spend};
@@ -33,7 +33,7 @@ impl<S: ActorStore> Desk<S> {
     // Hands in the slip at a place.
     pub(crate) fn hand_in(&mut self, i: usize, fate: Fate)
         requires within { i < vec_len self.old.held }
-        ensures after { (d : Slip) → hub_model S.meaning self.new.hub ≡ hub_after (hub_model S.meaning self.old.hub) (handed_in fate (hub_model S.meaning self.old.hub) (slice_index_or self.old.held.items i d)) }
+        ensures after { (d : SlipModel) → hub_model S.meaning self.new.hub ≡ hub_after (hub_model S.meaning self.old.hub) (handed_in fate (hub_model S.meaning self.old.hub) (slice_index_or self.old.held.items i d)) }
         ensures fewer { vec_len self.new.held + 1 ≡ vec_len self.old.held }
     {
         let slip = self.held.remove(i);

@@ -1,12 +1,9 @@
 // One enrolled switch in memory, and switches in a row.
 #![tactic(auto)]
 
-mod asking;
 mod items;
-mod memory;
 mod row;
-mod stepping;
+mod switch;
 
-pub use asking::stands_in;
-pub use memory::{MOST_ACTORS, Switch};
 pub use row::{find, touch_all};
+pub use switch::{MOST_ACTORS, Switch, stands_in};

@@ -3,7 +3,7 @@ ghost use Rattle.std.specs.Prelude.{◌≡◌, map};
 ghost use Rattle.std.specs.Option.{option_map};
 ghost use Rattle.model.specs.Models.{find_switch, touched};
 
-use crate::memory::Switch;
+use crate::switch::Switch;
 
 // The switch with this ID.
 pub fn find(switches: &[Switch], id: u16) -> Option<&Switch>

@@ -2,7 +2,7 @@ use Rattle.std.proofs.Common.{suc, ◌++◌, take, drop, ◌∙◌, ap, arith}
 use Rattle.std.proofs.lemmas.List.{get_or_read}
 use Rattle.model.specs.Models.{hub_after}
 use Rattle.hub.specs.Memory.{hub_model}
-use Rattle.hub.specs.declared.slip.Slip.{Slip}
+use Rattle.hub.specs.Slips.{SlipModel}
 use Rattle.stage.specs.Slips.{handed_in}
 use Rattle.stage.proofs.Out.{holds_as, left_at, owed_at}
 use Rattle.stage.proofs.desk.Desk.hand_in.Goals as goal
@@ -30,6 +30,6 @@ returns g c =
     let long = desk.held.ok.0 in
     let within = c.requires.within in
     record {
-      after = λ d. c.spend.ensures ∙ ap (λ (y : Slip). hub_after h (handed_in c.args.fate h y)) (get_or_read desk.held.items c.args.i c.remove-slip.result (omega arith) c.remove-slip.ensures.value d);
+      after = λ d. c.spend.ensures ∙ ap (λ (y : SlipModel). hub_after h (handed_in c.args.fate h y)) (get_or_read desk.held.items c.args.i c.remove-slip.result (omega arith) c.remove-slip.ensures.value d);
       fewer = c.remove-slip.ensures.len;
     }

@@ -1,7 +1,7 @@
 use Rattle.std.proofs.Common.{◌≡◌, Some, sym, ap, ◌∙◌}
 use Rattle.model.specs.Models.{hub_after}
 use Rattle.hub.specs.Memory.{hub_model}
-use Rattle.hub.specs.declared.slip.Slip.{Slip}
+use Rattle.hub.specs.Slips.{SlipModel}
 use Rattle.stage.specs.Slips.{handed_for, handed_in, place_for}
 use Rattle.stage.proofs.Places.{place_is}
 use Rattle.stage.proofs.desk.Desk.hand_in_for.Goals as goal
@@ -14,6 +14,6 @@ returns-in-Some g c =
     let n = c.args.number in
     let i = c.in-Some.i in
     let fate = c.args.fate in
-    let wanted : Slip = record { switch = s; number = n } in
+    let wanted : SlipModel = record { switch = s; number = n } in
     let there : place_for s n xs ≡ Some i = ap (place_for s n) (sym c.as_slice.ensures.value) ∙ sym c.in-Some.ensures.answer in
-    c.hand_in.ensures.after wanted ∙ ap (λ (x : Slip). hub_after h (handed_in fate h x)) (place_is s n xs i wanted there) ∙ sym (ap (handed_for fate h s n) there)
+    c.hand_in.ensures.after wanted ∙ ap (λ (x : SlipModel). hub_after h (handed_in fate h x)) (place_is s n xs i wanted there) ∙ sym (ap (handed_for fate h s n) there)
