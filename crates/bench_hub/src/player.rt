@@ -10,7 +10,7 @@ use crate::stranger::Stranger;
 use hub::{Hub, Slip};
 use store::ActorStore;
 
-// A slip is not `Drop`, so neither is this: `finish` ends it, since the hub has the kept slip open.
+// It is not `Drop`, since a kept slip is not to be let go: `finish` ends it.
 pub(crate) struct Player<S: ActorStore> {
     pub(crate) hub: Hub<S>,
     pub(crate) kept: Option<Slip>,

@@ -11,7 +11,7 @@ use std::alloc::Global;
 use std::io;
 use store::ActorStore;
 
-// The slips lie in the order in which they were composed. A slip is not `Drop`, so neither is this:
+// The slips lie in the order in which they were composed. It is not `Drop`, since slips are not to be let go:
 // `withhold_rest` ends it.
 pub(crate) struct Desk<S: ActorStore> {
     pub(crate) hub: Hub<S>,
