@@ -71,18 +71,14 @@ decode_spelt s bs out spelt short fits =
     let told = tells_ok s (length out) (length bs) (spelt_length spelt) short (spelt_ahead spelt) fits in
     (told, leaves_ok s out (length bs) told ∙ ap (λ l. l ++ drop (length bs) out) (spelt_bytes spelt))
 
--- the front of the buffer is what an accepted line spells
-pub spelt_front : (s out : List ℕ) (n : ℕ) → decode_tells s (length out) ≡ Ok n → take n (decode_leaves s out) ≡ bytes_of s
-spelt_front s out n e =
-    ap (take n) (leaves_ok s out n e) ∙ take_at (bytes_of s) (drop n out) n (length_bytes_of s n (ok_tells s (length out) n e).0)
-
 decode_sound : (s out : List ℕ) (n : ℕ) → decode_tells s (length out) ≡ Ok n → (length s ≤ longest) × (n ≤ length out) × Spells s (take n (decode_leaves s out)) × (drop n (decode_leaves s out) ≡ drop n out)
 decode_sound s out n e =
     let t = ok_tells s (length out) n e in
     let left = leaves_ok s out n e in
     let long = length_bytes_of s n t.0 in
+    let front : take n (decode_leaves s out) ≡ bytes_of s = ap (take n) left ∙ take_at (bytes_of s) (drop n out) n long in
     let back : drop n (decode_leaves s out) ≡ drop n out = ap (drop n) left ∙ drop_at (bytes_of s) (drop n out) n long in
-    (t.1, t.3, subst (λ bs. Spells s bs) (sym (spelt_front s out n e)) (spells_bytes s n t.0 t.2), back)
+    (t.1, t.3, subst (λ bs. Spells s bs) (sym front) (spells_bytes s n t.0 t.2), back)
 
 -- which place a refusal of the line tells
 bad_place : (s : List ℕ) (room p : ℕ) → decode_tells s room ≡ Err (Call HexLine p) → p < length s → length s ≤ longest → p ≡ digits_ahead s

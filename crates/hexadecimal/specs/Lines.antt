@@ -1,5 +1,7 @@
 -- The first line of a text and what follows it, and all of its lines.
 use Rattle.std.specs.Prelude.{◌≡◌, ℕ, suc, ◌+◌, ◌<◌, cond, ◌⊎◌, List, [], ◌∷◌, ◌++◌, length, take, drop, Some, None, Option, ◌==◌, ◌≢◌, slice_index}
+use Rattle.std.specs.Borrow.{Bor}
+use Rattle.std.specs.Iterator.{YieldsFirstRef}
 use Rattle.std.specs.Option.{option_map}
 
 abbrev pub line_feed : ℕ
@@ -25,9 +27,6 @@ rest_of text = drop (line_length text + 1) text
 abbrev pub next_line : List ℕ → Option (List ℕ × List ℕ)
 next_line [] = None
 next_line (b ∷ text) = Some (line_of (b ∷ text), rest_of (b ∷ text))
-
-abbrev pub first_line : List ℕ → Option (List ℕ)
-first_line text = option_map (λ p. p.0) (next_line text)
 
 abbrev pub Without : ℕ → List ℕ → Type 0
 Without b text = (k : ℕ) → k < length text → slice_index text k ≢ b
@@ -55,3 +54,9 @@ lines_of (b ∷ text) = cond (b == line_feed) ([] ∷ lines_of text) (begun_with
 -- So the lines of a text are its first line and the lines of the rest.
 abbrev pub LineByLine : List ℕ → Type 0
 LineByLine text = 0 < length text → lines_of text ≡ line_of text ∷ lines_of (rest_of text)
+
+-- Taking the first line off a text: it is the first of the text's lines, and what follows it is left. An empty text has no line, and is left as it is.
+pub record TakesLine (text : List ℕ) (line : Option (Bor (List ℕ))) (left : List ℕ) : Type 0 where
+  pub yields : YieldsFirstRef lines_of text line left
+  pub first : option_map (λ l. l.now) line ≡ option_map (λ p. p.0) (next_line text)
+  pub rest : left ≡ rest_of text

@@ -1,8 +1,8 @@
 // A text taken apart line by line.
-ghost use Rattle.std.specs.Prelude.{◌≡◌, ℕ, ◌<◌, ◌≤◌, ⊤, List, length, MatchOption};
-ghost use Rattle.std.specs.Iterator.{MakesProgress, YieldsFirstRef, at_most};
+ghost use Rattle.std.specs.Prelude.{◌≡◌, ℕ, ◌<◌, ◌≤◌, List, length, MatchOption};
+ghost use Rattle.std.specs.Iterator.{at_most};
 ghost use Rattle.std.specs.Option.{option_map};
-ghost use Rattle.hexadecimal.specs.Lines.{FirstLine, LineByLine, Shorter, first_line, length_to, line_of, lines_of, next_line, rest_of};
+ghost use Rattle.hexadecimal.specs.Lines.{FirstLine, LineByLine, Shorter, TakesLine, length_to, line_of, next_line, rest_of};
 
 use std::marker::Model;
 
@@ -83,19 +83,14 @@ impl<'a> Lines<'a> {
 impl<'a> Iterator for Lines<'a> {
     type Item = &'a [u8];
 
-    ghost next_gives = { YieldsFirstRef lines_of };
+    ghost next_gives = { TakesLine };
 
     // There are no more lines than bytes.
     ghost remaining = { λ text. at_most (length text) };
 
     /// Takes the first line off the text that is left. Of an empty text there is none, and it stays empty.
     #[tactic(auto, using(crate::proofs::Fronts::lines_step, crate::proofs::Fronts::lines_none))]
-    fn next(&mut self) -> Option<&'a [u8]>
-        ensures steps { YieldsFirstRef lines_of self.old result self.new }
-        ensures goes { MakesProgress (λ _. ⊤) (λ text. at_most (length text)) self.old result self.new }
-        ensures line { option_map (λ line. line.now) result ≡ first_line self.old }
-        ensures left { self.new ≡ rest_of self.old }
-    {
+    fn next(&mut self) -> Option<&'a [u8]> {
         let (line, rest) = next_line(self.left)?;
         self.left = rest;
         Some(line)
