@@ -1,1 +1,4 @@
-pub mod Played
+pub mod Refusals
+pub mod Lines
+pub mod Dispatch
+pub mod House

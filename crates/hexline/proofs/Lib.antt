@@ -1,0 +1,2 @@
+mod Heard
+mod Opened
