@@ -17,7 +17,7 @@ pub struct Draft {
 }
 
 /// A packet whose FrameLength is filled in. It takes no record: begin another draft.
-#[derive(PartialEq, Eq, Debug, Drop)]
+#[derive(Debug, Drop)]
 pub struct Closed {
     len: usize,
 }
@@ -28,8 +28,6 @@ impl Model for Closed {
     ghost Value = { ℕ };
 
     ghost view = { λ c. c.len };
-
-    ghost inverse = { λ n. record { len = n } };
 }
 
 // Writes a message of kind K at a place where it has room.
