@@ -17,7 +17,7 @@ const WITH_IMAGE: usize = size_of::<Hub<Image>>() + BUFFERS;
 
 // Two functions, since each states its size as a number, which one over any store could not.
 
-// The bytes of a hub over a table of actors, with its buffers: below 64 KiB.
+/// How many bytes a hub over a table of actors takes, with a buffer to receive into and one to send from: below 64 KiB.
 pub fn bytes_with_table() -> usize
     ensures exact { result ≡ 14232 }
     ensures below { result < 65536 }
@@ -25,7 +25,7 @@ pub fn bytes_with_table() -> usize
     WITH_TABLE
 }
 
-// The bytes of a hub over the image of a ControlBlock, with its buffers: below 64 KiB.
+/// How many bytes a hub over the image of a ControlBlock takes, with a buffer to receive into and one to send from: below 64 KiB.
 pub fn bytes_with_image() -> usize
     ensures exact { result ≡ 13264 }
     ensures below { result < 65536 }
