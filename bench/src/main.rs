@@ -2,7 +2,9 @@
 
 #![deny(unsafe_code)]
 
+mod cases;
 mod compare;
+mod counting;
 mod coverage;
 mod outcome;
 mod plain;
@@ -17,6 +19,7 @@ mod timing;
 
 use std::process::ExitCode;
 
+use cases::Case;
 use plain::{Hub, Image, Table};
 use script::MAX_BUFFER;
 use side::{PLAIN, PROVED};
@@ -24,7 +27,12 @@ use side::{PLAIN, PROVED};
 const SEED: u64 = 20_261_127;
 
 fn main() -> ExitCode {
-    let seed = match std::env::args().nth(1).map(|word| word.parse()) {
+    let word = std::env::args().nth(1);
+    if word.as_deref() == Some(counting::PLAYS) {
+        counting::play_all(&all_cases());
+        return ExitCode::SUCCESS;
+    }
+    let seed = match word.map(|word| word.parse()) {
         None => SEED,
         Some(Ok(seed)) => seed,
         Some(Err(_)) => {
@@ -35,7 +43,7 @@ fn main() -> ExitCode {
     if !compare(seed) {
         return ExitCode::FAILURE;
     }
-    print_times();
+    print_costs();
     print_sizes();
     print_stack(seed);
     ExitCode::SUCCESS
@@ -59,12 +67,41 @@ fn compare(seed: u64) -> bool {
     missing.is_empty()
 }
 
-fn print_times() {
-    println!("\nNanoseconds a call, the play of the call subtracted (but for the first line)\n");
-    println!("{:<50}{:>10}{:>10}{:>8}", "", "plain", "proved", "ratio");
-    for line in timing::time_all() {
-        println!("{line}");
+/// Every case, in the order in which their costs are printed.
+fn all_cases() -> Vec<Case> {
+    let mut all = vec![cases::play_of_a_call()];
+    all.extend(cases::groups().into_iter().flat_map(|group| group.cases));
+    all
+}
+
+fn print_costs() {
+    println!("\nNanoseconds and instructions of a call, the play of the call subtracted (but for the first line)\n");
+    println!("{:<52}{:>28}   {:>28}", "", "nanoseconds", "instructions");
+    println!("{:<52}{1:>10}{2:>10}{3:>8}   {1:>10}{2:>10}{3:>8}", "", "plain", "proved", "ratio");
+    let counts = counting::count(&all_cases());
+    if let Err(reason) = &counts {
+        println!("(no instructions: {reason})");
     }
+    let mut counts = counts.unwrap_or_default().into_iter();
+    print_cost(&cases::play_of_a_call(), counts.next());
+    for group in cases::groups() {
+        println!("{}", group.heading);
+        for case in &group.cases {
+            case.check();
+            print_cost(case, counts.next());
+        }
+    }
+}
+
+fn print_cost(case: &Case, instructions: Option<[f64; 2]>) {
+    let nanoseconds = columns(timing::time(case), 1);
+    let instructions = instructions.map_or(String::new(), |both| columns(both, 0));
+    println!("    {:<48}{nanoseconds}   {instructions}", case.name);
+}
+
+/// The figures of both sides, with so many decimals, and their ratio.
+fn columns([plain, proved]: [f64; 2], decimals: usize) -> String {
+    format!("{plain:>10.decimals$}{proved:>10.decimals$}{:>8.2}", proved / plain)
 }
 
 fn print_sizes() {
