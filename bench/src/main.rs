@@ -13,6 +13,7 @@ mod proved;
 mod random;
 mod script;
 mod scripts;
+mod shift;
 mod side;
 mod stack;
 mod timing;

@@ -1,4 +1,4 @@
-//! The play of the proved hub, from the static library that `rt` builds: all unsafe code of the bench.
+//! The play of the proved hub, from the static library that `rt` builds: all calls of the bench that are unsafe.
 
 #![allow(unsafe_code)]
 
