@@ -46,9 +46,8 @@ impl Draft {
         ensures { result ≡ full self.now more buf.now }
     {
         let room = buf.len().min(PAYLOAD_MOST);
-        room < DESCRIPTOR_LEN
-            || self.behind > room - DESCRIPTOR_LEN
-            || more as usize > room - DESCRIPTOR_LEN - self.behind
+        let needed = DESCRIPTOR_LEN + more as usize;
+        room < needed || self.behind > room - needed
     }
 
     /// Begins a packet with these words, and writes its descriptor, with FrameLength 0, over the first sixteen bytes of the buffer.
@@ -93,6 +92,8 @@ impl Draft {
     }
 
     /// Adds a record, whatever its kind, as `append` does.
+    // Inlined: where the kind is known, nothing is left of the others.
+    #[inline(always)]
     pub fn add(self, buf: &mut [u8], record: Record) -> Result<Draft, (Fault, Draft)>
         ensures answer { result ≡ added «record» self buf.old }
         ensures bytes { buf.new ≡ added_bytes «record» self buf.old }
