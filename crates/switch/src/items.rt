@@ -1,6 +1,6 @@
 // The items of a switch, as a slice.
-ghost use Rattle.std.specs.Prelude.{◌≡◌, false, map, position};
-ghost use Rattle.model.specs.Models.{any_outstanding, is_actor, moved_item, touched_item};
+ghost use Rattle.std.specs.Prelude.{◌≡◌, false, map};
+ghost use Rattle.model.specs.Models.{any_outstanding, moved_item, touched_item};
 ghost use Rattle.switch.specs.Items.{actors_of, repeats};
 
 use model::{Change, Item};
@@ -14,20 +14,16 @@ pub(crate) fn move_all(items: &mut [Item], change: Change)
     }
 }
 
-// The place of the first item of this actor, if there is one.
-fn place_of(items: &[Item], actor: u16) -> Option<usize>
-    ensures { result ≡ position (is_actor actor) items.now }
-{
-    items.iter().position(|item| item.actor == actor)
-}
-
 // The item of this actor, if there is one, becomes due. The first is the only one, so the walk ends there.
 pub(crate) fn touch(items: &mut [Item], actor: u16)
     requires { repeats (actors_of items.old) ≡ false }
     ensures { items.new ≡ map (touched_item actor) items.old }
 {
-    if let Some(i) = place_of(items, actor) {
-        items[i].mark.note(Change::Changed);
+    for item in items.iter_mut() {
+        if item.actor == actor {
+            item.mark.note(Change::Changed);
+            return;
+        }
     }
 }
 

@@ -13,6 +13,8 @@ pub fn find(switches: &[Switch], id: u16) -> Option<&Switch>
 }
 
 // An actor becomes due at every switch that lists it.
+// Not inlined: within a caller its loops would share the registers with all that the caller keeps.
+#[inline(never)]
 pub fn touch_all(switches: &mut [Switch], actor: u16)
     ensures { switches.new ≡ map (touched actor) switches.old }
 {

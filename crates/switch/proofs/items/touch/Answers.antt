@@ -1,8 +1,14 @@
-use Rattle.switch.proofs.Touches.{touched_here, touched_nowhere}
+use Rattle.std.proofs.Common.{◌∙◌, arith}
+use Rattle.switch.proofs.Touches.{touched_here, untouched}
 use Rattle.switch.proofs.items.touch.Goals as goal
 
-pub returns-in-Some : goal.returns-in-Some
-returns-in-Some c = touched_here c.args.actor c.args.items.now c.requires c.in-Some.i c.note.new.self c.in-Some.ensures c.note.ensures
+pub returns-then-item-actor : goal.returns-then-item-actor
+returns-then-item-actor c =
+    let same = c.loop-item.invariant.same in
+    let met = rw same at c.if-item-actor.true in
+    rw same (touched_here c.args.actor c.args.items.now c.loop-item.item-index c.note.new.self c.loop-item-test.true c.requires c.loop-item.invariant.unmet met c.note.ensures)
 
-pub returns-in_default : goal.returns-in_default
-returns-in_default c = touched_nowhere c.args.actor c.args.items.now c.requires c.in_default.ensures
+pub returns : goal.returns
+returns c =
+    let l = c.loop-item in
+    l.invariant.same ∙ untouched c.args.actor c.args.items.now (λ k m. l.invariant.unmet k (omega (arith, c.loop-item-test.false)))
