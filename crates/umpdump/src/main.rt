@@ -8,13 +8,13 @@ ghost use Rattle.umpdump.specs.Accepted.{accepted_of};
 
 mod degrees;
 mod heading;
-mod rows;
+mod row;
 
 use fault::Fault;
 use heading::Heading;
 use hexadecimal::Lines;
 use packet::{Cursor, PAYLOAD_MOST, Packet};
-use rows::Row;
+use row::Row;
 use std::io;
 use std::io::Read;
 
