@@ -11,10 +11,11 @@ use crate::side::{PLAIN, PROVED};
 
 /// So many measured calls a script has.
 const MEASURED: usize = 20;
-/// So many times a script is played on one hub, unless that takes so long that others get the processor meanwhile.
+/// So many times a script is played on one hub where the lists are full, and more often where they are shorter.
 const TIMES: u32 = 20;
-/// So many answers the script of answers has, which is played once on each hub.
+/// So many answers the script of answers has where the lists are full. It is played once on each hub.
 const ANSWERS: u16 = 100;
+const MAX_ACTORS: usize = 64;
 const SENT: u8 = 1;
 const SWITCHES: usize = 32;
 /// An image of so many pages knows four actors for each.
@@ -40,6 +41,8 @@ pub struct Case {
     pub base: Script,
     /// How many calls of the script are measured.
     measured: u32,
+    /// How many times the scripts are played, unless something else is said.
+    times: u32,
     /// What every measured call must tell: x and y.
     expected: Option<[u16; 2]>,
 }
@@ -79,6 +82,16 @@ impl Setup {
         Self { source: self.source.clone(), lists: vec![self.lists[0].clone()] }
     }
 
+    /// How many times as often a call is made as with full lists, so that what is measured is not lost beside the rest.
+    fn more_often(&self, most: usize) -> u16 {
+        (MAX_ACTORS / self.listed().len()).min(most) as u16
+    }
+
+    /// How many times a script is played on one hub.
+    fn times(&self) -> u32 {
+        TIMES * u32::from(self.more_often(16))
+    }
+
     /// The actors of the list of the first switch.
     fn listed(&self) -> &[u16] {
         &self.lists[0]
@@ -103,7 +116,14 @@ impl Case {
     fn new(name: impl Into<String>, setup: &Setup) -> Self {
         let script =
             Script { version: 0x0201, source: setup.source.clone(), calls: Vec::new(), times: 1, room: OUTCOME };
-        let mut case = Self { name: name.into(), full: script.clone(), base: script, measured: 0, expected: None };
+        let mut case = Self {
+            name: name.into(),
+            full: script.clone(),
+            base: script,
+            measured: 0,
+            times: setup.times(),
+            expected: None,
+        };
         for (switch, list) in (1..).zip(&setup.lists) {
             let list: Vec<u8> = list.iter().flat_map(|actor| actor.to_le_bytes()).collect();
             case.unmeasured(Call::new(Operation::Enrol).a(switch).data(&list));
@@ -132,7 +152,8 @@ impl Case {
         for call in calls.iter().cycle().take(MEASURED) {
             self.measured(*call);
         }
-        self.times(TIMES)
+        let times = self.times;
+        self.times(times)
     }
 
     fn times(mut self, times: u32) -> Self {
@@ -188,7 +209,7 @@ fn add(script: &mut Script, call: Call) {
 pub fn play_of_a_call() -> Case {
     let setup = Setup::in_a_row(256, 64).one_switch();
     let mut case = Case::new("the play of one call (operation 0)", &setup).repeating(Call::new(Operation::Nothing));
-    case.base = Script { times: TIMES, ..Case::new("", &setup).full };
+    case.base = Script { times: case.full.times, ..Case::new("", &setup).full };
     case
 }
 
@@ -222,7 +243,7 @@ fn each_call(setup: &Setup) -> Vec<Case> {
     let targets: Vec<Call> = setup.in_turn().iter().map(|&actor| set_target(actor)).collect();
     vec![
         Case::new("take an event of all listed actors, 1 switch", &alone).repeating(take(&event)).expecting(0, listed),
-        at_all.times((TIMES / u32::from(listed)).max(1)).expecting(0, listed),
+        at_all.times(setup.times() / TIMES).expecting(0, listed),
         answers("take the awaited answer to a full refresh", &alone).expecting(1, 2 * listed + 1),
         Case::new("compose a full refresh, sent", &alone)
             .repeating(compose(1, full_refresh(listed)))
@@ -282,7 +303,7 @@ fn full_refresh(actors: u16) -> u16 {
 fn answers(name: &'static str, setup: &Setup) -> Case {
     let mut case = Case::new(name, setup);
     let list = setup.listed();
-    for number in 1..=ANSWERS {
+    for number in 1..=ANSWERS * setup.more_often(10) {
         case.unmeasured(take(&init_request()));
         case.unmeasured(compose(1, full_refresh(list.len() as u16)));
         case.measured(take(&answer(number, list)));
