@@ -5,6 +5,7 @@ use crate::line::hear_all;
 use Turn::{Line, Tell};
 use std::test::Fail;
 
+#[derive(Drop)]
 enum Turn {
     Line(&'static str),
     Tell(u16),
