@@ -60,9 +60,18 @@ fn lengths(rt: HostRuntime) -> Result<(), Fail> {
 
 #[test]
 fn messages(rt: HostRuntime) -> Result<(), Fail> {
-    let cases: [(&[u8], Result<usize, Fault>); 9] = [
+    let cases: [(&[u8], Result<usize, Fault>); 11] = [
         (&[0x04, 0xF0, 0, 0], Ok(0)),
         (&[0x06, 0x42, 2, 0, 0xFB, 0xFF], Ok(1)),
+        // a length below four, and one past the end
+        (
+            &[0x03, 0xF0, 0, 0],
+            Err(Fault::Message(MessageFault::Broken, 16)),
+        ),
+        (
+            &[0x05, 0xF0, 0, 0],
+            Err(Fault::Message(MessageFault::Broken, 16)),
+        ),
         (
             &[0x03, 0xF0, 0],
             Err(Fault::Message(MessageFault::Broken, 16)),

@@ -153,7 +153,7 @@ fn refused_messages(rt: HostRuntime) -> Result<(), Fail> {
         &mut hub,
         &[
             (
-                event(&[0x08, 0x01, 0, 0, 1, 0, 0, 0, 0x03, 0xF0, 0])?,
+                event(&[0x08, 0x01, 0, 0, 1, 0, 0, 0, 0x03, 0xF0, 0, 0])?,
                 Err(Fault::Message(MessageFault::Broken, 24)),
             ),
             (
