@@ -4,5 +4,5 @@ pub mod Lists
 pub mod Rooms
 pub mod Verbs
 pub mod Calls
-pub mod Passing
+pub mod Line
 pub mod Words

@@ -1,8 +1,13 @@
-// A list of actors in fixed memory.
-ghost use Rattle.std.specs.Prelude.{◌≡◌};
+// A list of actors, as a script writes it, in fixed memory.
+ghost use Rattle.std.specs.Prelude.{◌≡◌, [], ◌∷◌, ◌++◌, take};
 ghost use Rattle.script.specs.Actors.{actors_in};
+ghost use Rattle.script.specs.Lists.{list_read};
 
+use crate::part::Part;
+use crate::word::cut;
 use arrayvec::ArrayVec;
+
+const COMMA: u8 = b',';
 
 // There is room for one more than any call takes.
 #[derive(Clone, PartialEq, Eq, Debug, Drop)]
@@ -16,5 +21,31 @@ impl Actors {
         ensures { result.now ≡ actors_in self.now }
     {
         self.entries.as_slice()
+    }
+}
+
+// Keeps an actor, where there is room.
+fn keep(entries: &mut ArrayVec<u16, 257>, actor: u16)
+    ensures { entries.new.items ≡ take 257 (entries.old.items ++ actor ∷ []) }
+{
+    if !entries.is_full() {
+        entries.push(actor);
+    }
+}
+
+impl Part for Actors {
+    ghost reads = { list_read };
+
+    // The list that a text writes, if every entry is a number.
+    fn read(text: &[u8]) -> Option<Self> {
+        let mut entries = ArrayVec::new();
+        let mut left = text;
+        // by `cut`: a `for` over `split` that may leave early needs an invariant on the iterator's state in place of one on the rest
+        while let Some((entry, rest)) = cut(left, COMMA) {
+            keep(&mut entries, u16::read(entry)?);
+            left = rest;
+        }
+        keep(&mut entries, u16::read(left)?);
+        Some(Actors { entries })
     }
 }

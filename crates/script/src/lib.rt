@@ -3,16 +3,12 @@
 
 mod actors;
 mod call;
-mod lists;
-mod numbers;
-mod opening;
-mod parsing;
-mod parts;
-mod passing;
+mod line;
+mod number;
+mod part;
 mod verb;
-mod words;
+mod word;
 
 pub use actors::Actors;
-pub use call::{Call, Store};
-pub use parsing::parse;
-pub use passing::is_passed_over;
+pub use call::{Call, Store, parse};
+pub use line::is_passed_over;

@@ -11,7 +11,7 @@ use Rattle.model.specs.Taking.{take_payload}
 use Rattle.hub.specs.Slips.{SlipModel}
 use Rattle.script.specs.Calls as call
 use Rattle.script.specs.Calls.{Said, call_in}
-use Rattle.script.specs.Passing.{passed_over}
+use Rattle.script.specs.Line.{passed_over}
 use Rattle.stage.specs.Slips.{HoldsAll, handed_for, place_for}
 use Rattle.stage.specs.Telling.{told_of}
 use Rattle.stage.specs.declared.telling.Told.{Told}

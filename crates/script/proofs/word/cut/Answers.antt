@@ -2,7 +2,7 @@ use Rattle.std.proofs.Common.{◌≡◌, suc, ◌+◌, ◌-◌, ◌<◌, ◌≤�
 use Rattle.std.proofs.lemmas.List.{take_rest}
 use Rattle.hexadecimal.specs.Lines.{length_to}
 use Rattle.script.proofs.Entries.{first_part, one_part}
-use Rattle.script.proofs.words.cut.Goals as goal
+use Rattle.script.proofs.word.cut.Goals as goal
 
 pub returns-in_err-get-clause-parts : goal.returns-in_err-get-clause-parts
 returns-in_err-get-clause-parts c =

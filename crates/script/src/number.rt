@@ -3,7 +3,7 @@ ghost use Rattle.std.specs.Prelude.{◌≡◌, ◌+◌, ◌-◌, ◌*◌, ◌^�
 ghost use Rattle.hexadecimal.specs.Digit.{is_numeral};
 ghost use Rattle.script.specs.Numbers.{number_in, value_in, word_in};
 
-use crate::parts::Part;
+use crate::part::Part;
 
 // A number with one digit more, as long as it stays within `most`.
 fn with_digit(n: u32, c: u8, most: u32) -> Option<u32>

@@ -1,7 +1,7 @@
 use Rattle.std.proofs.Common.{◌≡◌, length}
 use Rattle.script.specs.Lists.{comma, list_in, numbers_in, parts_of}
 use Rattle.script.proofs.Entries.{kept_with}
-use Rattle.script.proofs.lists.ActorsPart.read.Given as goal
+use Rattle.script.proofs.actors.ActorsPart.read.Given as goal
 
 abbrev pub invariant-loop-entry : goal.invariant-loop-entry
 invariant-loop-entry l = kept_with l.entries.items (numbers_in (parts_of comma l.left)) ≡ list_in l.text

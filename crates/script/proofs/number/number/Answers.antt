@@ -1,6 +1,6 @@
 use Rattle.std.proofs.Common.{sym, ◌∙◌, arith, rules}
 use Rattle.script.proofs.Digits.{all_read, more_at, number_is, stop_at}
-use Rattle.script.proofs.numbers.number.Goals as goal
+use Rattle.script.proofs.number.number.Goals as goal
 
 pub returns-in_err-n : goal.returns-in_err-n
 returns-in_err-n c =

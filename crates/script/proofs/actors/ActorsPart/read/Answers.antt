@@ -3,7 +3,7 @@ use Rattle.std.specs.Option.{option_map}
 use Rattle.script.specs.Actors.{actors_of}
 use Rattle.script.specs.Lists.{comma, numbers_in, parts_of}
 use Rattle.script.proofs.Entries.{entry_last, entry_more, first_entry, kept_with}
-use Rattle.script.proofs.lists.ActorsPart.read.Goals as goal
+use Rattle.script.proofs.actors.ActorsPart.read.Goals as goal
 
 pub returns-in_err-read : goal.returns-in_err-read
 returns-in_err-read c =

@@ -1,6 +1,6 @@
 use Rattle.std.proofs.Common.{◌≡◌, ◌<◌, ◌∙◌, length, arith}
 use Rattle.script.proofs.Entries.{added, left_out}
-use Rattle.script.proofs.lists.keep.Goals as goal
+use Rattle.script.proofs.actors.keep.Goals as goal
 
 pub returns-then-not-is_full : goal.returns-then-not-is_full
 returns-then-not-is_full c =

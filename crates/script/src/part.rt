@@ -3,7 +3,7 @@ ghost use Rattle.std.specs.Prelude.{◌≡◌, ℕ, List, Option};
 ghost use Rattle.std.specs.Option.{option_map};
 ghost use Rattle.script.specs.Calls.{any_word, two};
 
-use crate::words::cut;
+use crate::word::cut;
 
 pub(crate) const SPACE: u8 = b' ';
 

@@ -1,6 +1,6 @@
 // Lines that say nothing.
 ghost use Rattle.std.specs.Prelude.{◌≡◌};
-ghost use Rattle.script.specs.Passing.{passed_over};
+ghost use Rattle.script.specs.Line.{passed_over};
 
 const COMMENT: u8 = b'#';
 
