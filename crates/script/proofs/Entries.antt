@@ -1,10 +1,11 @@
 -- A list of actors read entry by entry, of which no more than its room is kept.
-use Rattle.std.proofs.Common.{◌≡◌, ℕ, zero, suc, ◌<◌, ◌≤◌, Bool, true, false, cond, eqb, List, [], ◌∷◌, ◌++◌, length, take, drop, Some, None, Option, sym, refl, ap, ◌∙◌, append_assoc, arith}
-use Rattle.std.specs.Option.{option_map}
+use Rattle.std.proofs.Common.{◌≡◌, ℕ, zero, suc, ◌<◌, ◌≤◌, Bool, true, false, cond, eqb, List, [], ◌∷◌, ◌++◌, length, take, drop, Ok, Err, Result, sym, refl, ap, ◌∙◌, append_assoc, arith}
 use Rattle.std.proofs.lemmas.List.{length-append, take_all, take-append-le}
 use Rattle.hexadecimal.specs.Lines.{begun_with, length_to}
 use Rattle.script.specs.Lists.{before, numbers_in, parts_of}
-use Rattle.script.specs.Numbers.{word_in}
+use Rattle.script.specs.Parts.{short_read}
+use Rattle.script.specs.Reasons.{Why, made}
+use Rattle.script.specs.declared.place.Place.{Place}
 
 -- one entry more
 pub added : (xs : List ℕ) (a : ℕ) → length xs < 257 → xs ++ a ∷ [] ≡ take 257 (xs ++ a ∷ [])
@@ -43,21 +44,22 @@ take_twice (suc room) [] ys = refl
 take_twice (suc room) (x ∷ xs) ys = ap (λ (zs : List ℕ). x ∷ zs) (take_twice room xs ys)
 
 -- what a list gives, of which some entries are kept already
-abbrev pub kept_with : List ℕ → Option (List ℕ) → Option (List ℕ)
-kept_with kept o = option_map (λ (ns : List ℕ). take 257 (kept ++ ns)) o
+abbrev pub kept_with : List ℕ → Result (List ℕ) Why → Result (List ℕ) Why
+kept_with kept r = made (λ (ns : List ℕ). take 257 (kept ++ ns)) r
 
 -- one entry more of it is kept
-pub entry_more : (kept : List ℕ) (n : ℕ) (o : Option (List ℕ)) → kept_with (take 257 (kept ++ n ∷ [])) o ≡ kept_with kept (before (Some n) o)
-entry_more kept n None = refl
-entry_more kept n (Some ns) = ap Some (take_twice 257 (kept ++ n ∷ []) ns ∙ ap (take 257) (append_assoc kept (n ∷ []) ns))
+pub entry_more : (kept : List ℕ) (n : ℕ) (r : Result (List ℕ) Why) → kept_with (take 257 (kept ++ n ∷ [])) r ≡ kept_with kept (before (Ok n) r)
+entry_more kept n (Err e) = refl
+entry_more kept n (Ok ns) = ap Ok (take_twice 257 (kept ++ n ∷ []) ns ∙ ap (take 257) (append_assoc kept (n ∷ []) ns))
 
 -- the last entry
-pub entry_last : (kept : List ℕ) (n : ℕ) → Some (take 257 (kept ++ n ∷ [])) ≡ kept_with kept (before (Some n) (numbers_in []))
+pub entry_last : (place : Place) (kept : List ℕ) (n : ℕ) → Ok (take 257 (kept ++ n ∷ [])) ≡ kept_with kept (before (Ok n) (numbers_in place []))
 unfolding numbers_in
-entry_last kept n = refl
+entry_last place kept n = refl
 
 -- what the first part is, which decides how the reading goes on
-pub first_entry : (kept : List ℕ) (o : Option ℕ) (part : List ℕ) (parts whole : List (List ℕ)) → whole ≡ part ∷ parts → o ≡ word_in part
-    → kept_with kept (before o (numbers_in parts)) ≡ kept_with kept (numbers_in whole)
+pub first_entry : (place : Place) (kept : List ℕ) (r : Result ℕ Why) (part : List ℕ) (parts whole : List (List ℕ)) → whole ≡ part ∷ parts → r ≡ short_read place part
+    → kept_with kept (before r (numbers_in place parts)) ≡ kept_with kept (numbers_in place whole)
 unfolding numbers_in
-first_entry kept o part parts whole e w = ap (λ (p : Option ℕ). kept_with kept (before p (numbers_in parts))) w ∙ sym (ap (λ (ps : List (List ℕ)). kept_with kept (numbers_in ps)) e)
+first_entry place kept r part parts whole e w =
+    ap (λ (p : Result ℕ Why). kept_with kept (before p (numbers_in place parts))) w ∙ sym (ap (λ (ps : List (List ℕ)). kept_with kept (numbers_in place ps)) e)

@@ -1,17 +1,20 @@
--- What a line of a script says.
-use Rattle.std.specs.Prelude.{ℕ, cond, ◌||◌, List, length, ℤ, is_some, Some, None, codes, Option, ◌==◌}
-use Rattle.std.specs.Option.{option_map}
+-- What a line of a script says as a call.
+use Rattle.std.specs.Prelude.{ℕ, cond, List, ℤ, Some, None, Ok, Err, codes, Option, Result}
 use Rattle.std.specs.Str.{bytes_eq}
 use Rattle.model.specs.declared.told.Site.{Site}
 use Rattle.script.specs.Actors.{actors_in}
-use Rattle.script.specs.Lists.{list_in}
-use Rattle.script.specs.Numbers.{number_in, value_in, word_in}
+use Rattle.script.specs.Lists.{list_in, list_read}
+use Rattle.script.specs.Parts.{both, long_read, one, one_word, short_read, space, two, two_words, value_read}
+use Rattle.script.specs.Reasons.{Why, made, no_name, no_store, other_form}
+use Rattle.script.specs.Rooms.{room_read}
 use Rattle.script.specs.Verbs.{verb_of}
 use Rattle.script.specs.Words.{cut_at}
 use Rattle.script.specs.declared.call.Call.{Call}
 use Rattle.script.specs.declared.call.Call.TheVariants as call
 use Rattle.script.specs.declared.call.Store.{Store}
 use Rattle.script.specs.declared.call.Store.TheVariants as store
+use Rattle.script.specs.declared.place.Place.{Place}
+use Rattle.script.specs.declared.place.Place.TheVariants.{Version, Project, Firmware, Design, Switch, Actor, Value, ControlWord, Room, PackageNumber}
 use Rattle.script.specs.declared.verb.Verb.{Verb}
 use Rattle.script.specs.declared.verb.Verb.TheVariants.{Open, Enrol, Actual, Target, Control, Take, Compose, Sent, Withheld, Marks, Word, Flags, Key, Reading}
 
@@ -58,77 +61,73 @@ said (call.Flags s) = flags s
 said (call.Key s) = key s
 said (call.Reading s) = reading s
 
-abbrev pub space : ℕ
-space = 32
+abbrev pub store_named : List ℕ × List ℕ → Result Kept Why
+store_named p =
+    cond (bytes_eq p.0 (codes "table")) (made table (list_in Actor p.1))
+    (cond (bytes_eq p.0 (codes "image")) (Ok (image p.1)) (Err (no_store p.0)))
 
-abbrev pub both : {A B : Type 0} → Option A → Option B → Option (A × B)
-both None b = None
-both (Some x) None = None
-both (Some x) (Some y) = Some (x, y)
-
-abbrev pub each_of : {A B : Type 0} → (List ℕ → Option A) → (List ℕ → Option B) → Option (List ℕ × List ℕ) → Option (A × B)
-each_of f g None = None
-each_of f g (Some p) = both (f p.0) (g p.1)
-
--- two texts with a space between them, by what each is
-abbrev pub two : {A B : Type 0} → (List ℕ → Option A) → (List ℕ → Option B) → List ℕ → Option (A × B)
-two f g text = each_of f g (cut_at space text)
-
--- one word, whatever it says
-abbrev pub any_word : List ℕ → Option (List ℕ)
-any_word text = cond (length text == 0 || is_some (cut_at space text)) None (Some text)
-
-abbrev pub store_named : Option (List ℕ × List ℕ) → Option Kept
-store_named None = None
-store_named (Some p) =
-    cond (bytes_eq p.0 (codes "table")) (option_map table (list_in p.1))
-    (cond (bytes_eq p.0 (codes "image")) (option_map image (any_word p.1)) None)
+abbrev pub store_of : Result (List ℕ × List ℕ) Why → Result Kept Why
+store_of (Err e) = Err e
+store_of (Ok p) = store_named p
 
 -- `table` and a list, or `image` and the bytes of a block
-abbrev pub store_in : List ℕ → Option Kept
-store_in text = store_named (cut_at space text)
+abbrev pub store_in : List ℕ → Result Kept Why
+store_in text = store_of (two_words Open text)
 
--- two numbers, and what stands behind the space after them
-abbrev pub two_before : List ℕ → Option (ℕ × (ℕ × List ℕ))
-two_before text = two word_in (two word_in Some) text
+abbrev pub numbers_and : Place → Place → List ℕ → Option (List ℕ × List ℕ) → Result (ℕ × (ℕ × List ℕ)) Why
+numbers_and a b first None = Err (other_form Open)
+numbers_and a b first (Some p) = made (λ q. (q.0, (q.1, p.1))) (both (short_read a first) (short_read b p.0))
 
-abbrev pub open_over : ℕ × (ℕ × List ℕ) → Option (ℕ × (ℕ × List ℕ)) → Option Said
-open_over p None = None
-open_over p (Some q) = option_map (open_hub (record { version = p.0; project = p.1.0; firmware = q.0; design = q.1.0 })) (store_in q.1.1)
+abbrev pub numbers_before : Place → Place → Option (List ℕ × List ℕ) → Result (ℕ × (ℕ × List ℕ)) Why
+numbers_before a b None = Err (other_form Open)
+numbers_before a b (Some p) = numbers_and a b p.0 (cut_at space p.1)
+
+-- two numbers in their places, and what stands behind the space after them
+abbrev pub two_before : Place → Place → List ℕ → Result (ℕ × (ℕ × List ℕ)) Why
+two_before a b text = numbers_before a b (cut_at space text)
+
+abbrev pub open_over : ℕ × (ℕ × List ℕ) → Result (ℕ × (ℕ × List ℕ)) Why → Result Said Why
+open_over p (Err e) = Err e
+open_over p (Ok q) = made (open_hub (record { version = p.0; project = p.1.0; firmware = q.0; design = q.1.0 })) (store_in q.1.1)
+
+abbrev pub open_with : Result (ℕ × (ℕ × List ℕ)) Why → Result Said Why
+open_with (Err e) = Err e
+open_with (Ok p) = open_over p (two_before Firmware Design p.1.1)
 
 -- version and project, firmware and design, then the store
-abbrev pub open_with : Option (ℕ × (ℕ × List ℕ)) → Option Said
-open_with None = None
-open_with (Some p) = open_over p (two_before p.1.1)
-
-abbrev pub open_in : List ℕ → Option Said
-open_in text = open_with (two_before text)
+abbrev pub open_in : List ℕ → Result Said Why
+open_in text = open_with (two_before Version Project text)
 
 -- what stands behind the name of each call
-abbrev pub call_for : Verb → List ℕ → Option Said
+abbrev pub call_for : Verb → List ℕ → Result Said Why
 call_for Open rest = open_in rest
-call_for Enrol rest = option_map (λ p. enrol p.0 p.1) (two word_in list_in rest)
-call_for Actual rest = option_map (λ p. actual p.0 p.1) (two word_in value_in rest)
-call_for Target rest = option_map (λ p. target p.0 p.1) (two word_in value_in rest)
-call_for Control rest = option_map (λ p. control p.0 p.1) (two word_in (number_in 4294967295) rest)
-call_for Take rest = option_map take (any_word rest)
-call_for Compose rest = option_map (λ p. compose p.0 p.1) (two word_in (number_in 1472) rest)
-call_for Sent rest = option_map (λ p. sent p.0 p.1) (two word_in word_in rest)
-call_for Withheld rest = option_map (λ p. withheld p.0 p.1) (two word_in word_in rest)
-call_for Marks rest = option_map (λ p. marks p.0 p.1) (two word_in word_in rest)
-call_for Word rest = option_map word (word_in rest)
-call_for Flags rest = option_map flags (word_in rest)
-call_for Key rest = option_map key (word_in rest)
-call_for Reading rest = option_map reading (word_in rest)
+call_for Enrol rest = made (λ p. enrol p.0 (actors_in p.1)) (two (short_read Switch) (list_read Actor) Enrol rest)
+call_for Actual rest = made (λ p. actual p.0 p.1) (two (short_read Actor) (value_read Value) Actual rest)
+call_for Target rest = made (λ p. target p.0 p.1) (two (short_read Actor) (value_read Value) Target rest)
+call_for Control rest = made (λ p. control p.0 p.1) (two (short_read Switch) (long_read ControlWord) Control rest)
+call_for Take rest = made take (one_word Take rest)
+call_for Compose rest = made (λ p. compose p.0 p.1.bytes) (two (short_read Switch) (room_read Room) Compose rest)
+call_for Sent rest = made (λ p. sent p.0 p.1) (two (short_read Switch) (short_read PackageNumber) Sent rest)
+call_for Withheld rest = made (λ p. withheld p.0 p.1) (two (short_read Switch) (short_read PackageNumber) Withheld rest)
+call_for Marks rest = made (λ p. marks p.0 p.1) (two (short_read Switch) (short_read Actor) Marks rest)
+call_for Word rest = made word (one (short_read Switch) Word rest)
+call_for Flags rest = made flags (one (short_read Switch) Flags rest)
+call_for Key rest = made key (one (short_read Switch) Key rest)
+call_for Reading rest = made reading (one (short_read Switch) Reading rest)
 
-abbrev pub call_behind : List ℕ → Option Verb → Option Said
-call_behind rest None = None
-call_behind rest (Some verb) = call_for verb rest
+abbrev pub call_behind : List ℕ → List ℕ → Option Verb → Result Said Why
+call_behind name rest None = Err (no_name name)
+call_behind name rest (Some verb) = call_for verb rest
 
-abbrev pub call_of : Option (List ℕ × List ℕ) → Option Said
-call_of None = None
-call_of (Some p) = call_behind p.1 (verb_of p.0)
+-- a name that nothing stands behind
+abbrev pub call_alone : List ℕ → Option Verb → Result Said Why
+call_alone name None = Err (no_name name)
+call_alone name (Some verb) = Err (other_form verb)
 
--- A line that is a call: its name, a space, and what stands behind it.
-abbrev pub call_in : List ℕ → Option Said
-call_in line = call_of (cut_at space line)
+abbrev pub call_of : List ℕ → Option (List ℕ × List ℕ) → Result Said Why
+call_of line None = call_alone line (verb_of line)
+call_of line (Some p) = call_behind p.0 p.1 (verb_of p.0)
+
+-- A line that is a call: its name, a space, and what stands behind it. Of any other line, why it is none.
+unfoldable pub call_in : List ℕ → Result Said Why
+call_in line = call_of line (cut_at space line)

@@ -1,8 +1,12 @@
 pub mod Numbers
 pub mod Actors
+pub mod Texts
+pub mod Places
+pub mod Verbs
+pub mod Reasons
+pub mod Words
+pub mod Parts
 pub mod Lists
 pub mod Rooms
-pub mod Verbs
 pub mod Calls
 pub mod Line
-pub mod Words

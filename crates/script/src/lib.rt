@@ -6,9 +6,16 @@ mod call;
 mod line;
 mod number;
 mod part;
+mod place;
+mod reason;
+mod text;
 mod verb;
 mod word;
 
 pub use actors::Actors;
-pub use call::{Call, Store, parse};
-pub use line::is_passed_over;
+pub use call::{Call, Store};
+pub use line::{Line, read};
+pub use place::Place;
+pub use reason::Reason;
+pub use text::Text;
+pub use verb::Verb;

@@ -1,25 +1,39 @@
-// Decimal numbers.
-ghost use Rattle.std.specs.Prelude.{◌≡◌, ◌+◌, ◌-◌, ◌*◌, ◌^◌, ◌<◌, ◌≤◌, ◌&&◌, IfSome, if◌then◌else◌, Some, None, nat_le};
-ghost use Rattle.hexadecimal.specs.Digit.{is_numeral};
-ghost use Rattle.script.specs.Numbers.{number_in, value_in, word_in};
+// Numbers: decimal, or hexadecimal behind `0x`.
+ghost use Rattle.std.specs.Prelude.{◌≡◌, ◌+◌, ◌*◌, ◌^◌, ◌<◌, ◌≤◌, ◌&&◌, IfSome, if◌then◌else◌, Some, None, nat_le};
+ghost use Rattle.hexadecimal.specs.Digit.{value_of};
+ghost use Rattle.script.specs.Numbers.{is_digit_to, number_in, number_to, value_in};
+ghost use Rattle.script.specs.Parts.{long_read, short_read, value_read};
 
 use crate::part::Part;
+use crate::place::Place;
+use crate::reason::Reason;
+
+// What a digit stands for in a number to that base, if it is one.
+fn digit(c: u8, base: u32) -> Option<u32>
+    ensures { result ≡ (if is_digit_to base c then Some (value_of c) else None) }
+{
+    let value = match c {
+        b'0'..=b'9' => c - b'0',
+        b'A'..=b'F' => c - b'A' + 10,
+        b'a'..=b'f' => c - b'a' + 10,
+        _ => return None,
+    };
+    (u32::from(value) < base).then_some(u32::from(value))
+}
 
 // A number with one digit more, as long as it stays within `most`.
-fn with_digit(n: u32, c: u8, most: u32) -> Option<u32>
-    ensures answer { result ≡ (if is_numeral c && nat_le (n * 10 + (c - 48)) most then Some (n * 10 + (c - 48)) else None) }
+fn with_digit(n: u32, c: u8, base: u32, most: u32) -> Option<u32>
+    ensures answer { result ≡ (if is_digit_to base c && nat_le (n * base + value_of c) most then Some (n * base + value_of c) else None) }
     ensures within { IfSome result (λ m. m ≤ most) }
 {
-    if !c.is_ascii_digit() {
-        return None;
-    }
-    let more = n.checked_mul(10)?.checked_add(u32::from(c - b'0'))?;
+    let more = n.checked_mul(base)?.checked_add(digit(c, base)?)?;
     (more <= most).then_some(more)
 }
 
-// The number that a word writes, if it is one and at most `most`.
-pub(crate) fn number(word: &[u8], most: u32) -> Option<u32>
-    ensures answer { result ≡ number_in most word.now }
+// The number that digits write, if there are any and it is at most `most`.
+fn number_to(word: &[u8], base: u32, most: u32) -> Option<u32>
+    requires { 0 < base }
+    ensures answer { result ≡ number_to base most word.now }
     ensures within { IfSome result (λ m. m ≤ most) }
 {
     if word.is_empty() {
@@ -27,36 +41,63 @@ pub(crate) fn number(word: &[u8], most: u32) -> Option<u32>
     }
     let mut n = 0;
     for c in word {
-        n = with_digit(n, *c, most)?;
+        n = with_digit(n, *c, base, most)?;
     }
     Some(n)
 }
 
+// The number that a word writes, if it is one and at most `most`.
+#[tactic(auto, unfolding(crate::specs::Numbers::number_in))]
+pub(crate) fn number(word: &[u8], most: u32) -> Option<u32>
+    ensures answer { result ≡ number_in most word.now }
+    ensures within { IfSome result (λ m. m ≤ most) }
+{
+    match word {
+        [b'0', b'x', digits @ ..] => number_to(digits, 16, most),
+        _ => number_to(word, 10, most),
+    }
+}
+
+// A value, which may have a minus.
+fn value(word: &[u8]) -> Option<i16>
+    ensures { result ≡ value_in word.now }
+{
+    match word {
+        [b'-', digits @ ..] => Some(-(number(digits, 32768)? as i32) as i16),
+        _ => Some(number(word, 32767)? as i16),
+    }
+}
+
 impl Part for u16 {
-    ghost reads = { word_in };
+    ghost reads = { short_read };
 
     // A number that fits two bytes.
-    fn read(text: &[u8]) -> Option<Self> {
-        Some(number(text, 65535)? as u16)
+    fn read(text: &[u8], place: Place) -> Result<Self, Reason<'_>> {
+        match number(text, 65535) {
+            Some(n) => Ok(n as u16),
+            None => Err(Reason::Number(text, place)),
+        }
     }
 }
 
 impl Part for u32 {
-    ghost reads = { number_in 4294967295 };
+    ghost reads = { long_read };
 
-    fn read(text: &[u8]) -> Option<Self> {
-        number(text, u32::MAX)
+    fn read(text: &[u8], place: Place) -> Result<Self, Reason<'_>> {
+        match number(text, u32::MAX) {
+            Some(n) => Ok(n),
+            None => Err(Reason::Number(text, place)),
+        }
     }
 }
 
 impl Part for i16 {
-    ghost reads = { value_in };
+    ghost reads = { value_read };
 
-    // A value, which may have a minus.
-    fn read(text: &[u8]) -> Option<Self> {
-        match text {
-            [b'-', digits @ ..] => Some(-(number(digits, 32768)? as i32) as i16),
-            _ => Some(number(text, 32767)? as i16),
+    fn read(text: &[u8], place: Place) -> Result<Self, Reason<'_>> {
+        match value(text) {
+            Some(n) => Ok(n),
+            None => Err(Reason::Number(text, place)),
         }
     }
 }

@@ -1,10 +1,10 @@
 // The names of the calls.
 ghost use Rattle.std.specs.Prelude.{◌≡◌};
-ghost use Rattle.script.specs.Verbs.{verb_of};
+ghost use Rattle.script.specs.Verbs.{form_of, verb_of};
 
-// What a line asks for: known before what stands behind the name is read.
+/// The call that a line names.
 #[derive(Clone, Copy, PartialEq, Eq, Debug)]
-pub(crate) enum Verb {
+pub enum Verb {
     Open,
     Enrol,
     Actual,
@@ -42,6 +42,28 @@ impl Verb {
             b"key" => Some(Verb::Key),
             b"reading" => Some(Verb::Reading),
             _ => None,
+        }
+    }
+
+    // How a line with this call is written.
+    pub(crate) fn form(self) -> &'static str
+        ensures { result.now ≡ form_of self }
+    {
+        match self {
+            Verb::Open => "open VERSION PROJECT FIRMWARE DESIGN table A,B,.. or image HEX",
+            Verb::Enrol => "enrol S A,B,..",
+            Verb::Actual => "actual A V",
+            Verb::Target => "target A V",
+            Verb::Control => "control S WORD",
+            Verb::Take => "take HEX",
+            Verb::Compose => "compose S ROOM",
+            Verb::Sent => "sent S NUMBER",
+            Verb::Withheld => "withheld S NUMBER",
+            Verb::Marks => "marks S A",
+            Verb::Word => "word S",
+            Verb::Flags => "flags S",
+            Verb::Key => "key S",
+            Verb::Reading => "reading S",
         }
     }
 }

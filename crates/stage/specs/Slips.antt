@@ -4,8 +4,11 @@ use Rattle.std.specs.Option.{option_map, option_to_list}
 use Rattle.model.specs.Composing as composing
 use Rattle.model.specs.Models.{HubModel, Step, hub_after}
 use Rattle.hub.specs.Slips.{SlipModel, slip_out}
-use Rattle.stage.specs.declared.slips.Fate.{Fate}
-use Rattle.stage.specs.declared.slips.Fate.TheVariants.{Sent, Withheld}
+use Rattle.stage.specs.declared.outcome.Answer.{Answer}
+use Rattle.stage.specs.declared.outcome.Answer.TheVariants as answer
+use Rattle.stage.specs.declared.outcome.Told.TheVariants as told
+use Rattle.stage.specs.declared.slip.Fate.{Fate}
+use Rattle.stage.specs.declared.slip.Fate.TheVariants.{Sent, Withheld}
 
 -- the numbers of the slips for one switch, in order
 unfoldable pub numbers_for : ℕ → List SlipModel → List ℕ
@@ -37,3 +40,8 @@ handed_in Withheld h x = composing.withheld h x.switch x.number
 abbrev pub handed_for : Fate → HubModel → ℕ → ℕ → Option ℕ → HubModel
 handed_for fate h switch number None = h
 handed_for fate h switch number (Some i) = hub_after h (handed_in fate h (record { switch = switch; number = number }))
+
+-- what is told of handing it in
+abbrev pub handed_told : Option ℕ → Answer
+handed_told None = answer.NoSlip
+handed_told (Some i) = answer.Granted told.Done

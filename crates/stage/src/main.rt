@@ -2,48 +2,83 @@
 #![tactic(auto)]
 
 ghost use Rattle.std.specs.Prelude.{OnOk};
-ghost use Rattle.hexadecimal.specs.Lines.{lines_of};
 ghost use Rattle.hub.specs.Memory.{hub_model};
-ghost use Rattle.stage.specs.Calls.{MakesAll};
+ghost use Rattle.stage.specs.Calls.{Makes, MakesScript};
+ghost use Rattle.stage.specs.Reviews.{review_of};
 
-mod calls;
+mod arguments;
+mod call;
 mod desk;
-mod slips;
-mod telling;
+mod lines;
+mod outcome;
+mod review;
+mod slip;
 
+use arguments::command;
 use desk::Desk;
 use fault::Fault;
-use hexadecimal::Lines;
 use hub::Hub;
 use image::Image;
+use lines::Lines;
 use model::Site;
+use outcome::{Answer, Outcome, Told};
 use packet::PAYLOAD_MOST;
-use script::{Call, Store};
-use std::alloc::Global;
-use std::io;
-use std::io::Read;
+use review::Review;
+use script::{Call, Line, Store};
+use std::fs::File;
+use std::io::{BufRead, BufReader, ErrorKind};
+use std::process::ExitCode;
+use std::{env, io};
 use store::{ActorStore, Table};
-use telling::tell_refusal;
 
-// Makes the calls of a script, up to its end.
-fn make_all<S: ActorStore>(rt: &impl Print, desk: &mut Desk<S>, text: &[u8]) -> io::Result<()>
-    ensures { OnOk result (MakesAll (lines_of text.now) (hub_model S.meaning desk.old.hub) (hub_model S.meaning desk.new.hub)) }
+// Makes what a line says.
+fn make<S: ActorStore>(
+    rt: &impl Print,
+    desk: &mut Desk<S>,
+    review: &mut Review,
+    number: u64,
+    line: &[u8],
+) -> io::Result<()>
+    ensures { OnOk result (Makes line.now (hub_model S.meaning desk.old.hub) (review_of review.old) (hub_model S.meaning desk.new.hub) (review_of review.new)) }
 {
-    for line in Lines::new(text) {
-        if script::is_passed_over(line) {
-            continue;
+    match script::read(line) {
+        Line::Passed => Ok(()),
+        Line::Wanted(outcome) => review.want(rt, number, outcome),
+        Line::Call(call) => {
+            let answer = desk.make(call)?;
+            review.tell(rt, &Outcome::Made(answer))
         }
-        match script::parse(line) {
-            Some(call) => desk.make(rt, call)?,
-            None => rt.println("unknown")?,
-        }
+        Line::Unknown(reason) => review.tell(rt, &Outcome::Unknown(reason)),
     }
-    Ok(())
+}
+
+// Makes what the lines of a script say, as they come, up to its end.
+fn make_all<S: ActorStore, R: BufRead>(
+    rt: &impl Print,
+    desk: &mut Desk<S>,
+    review: &mut Review,
+    script: &mut Lines<R>,
+) -> io::Result<()>
+    ensures { OnOk result (MakesScript (R.remaining script.old.reader) (hub_model S.meaning desk.old.hub) (review_of review.old) (hub_model S.meaning desk.new.hub) (review_of review.new)) }
+{
+    let mut line = script.blank();
+    for _ in 0..u64::MAX {
+        if !script.read(rt, &mut line)? {
+            return Ok(());
+        }
+        make(rt, desk, review, script.number(), line.as_slice())?;
+    }
+    Err(ErrorKind::FileTooLarge.into())
 }
 
 // Runs the script behind its `open` on the hub that was opened. No slip is lost, whatever could be shown.
-fn run<S: ActorStore + Drop>(rt: &impl Print, mut desk: Desk<S>, text: &[u8]) -> io::Result<()> {
-    let made = make_all(rt, &mut desk, text);
+fn run<S: ActorStore + Drop, R: BufRead>(
+    rt: &impl Print,
+    mut desk: Desk<S>,
+    review: &mut Review,
+    script: &mut Lines<R>,
+) -> io::Result<()> {
+    let made = make_all(rt, &mut desk, review, script);
     let told = desk.withhold_rest(rt);
     made?;
     told
@@ -57,22 +92,22 @@ enum Begun {
 }
 
 // Opens a hub over the store, and runs the rest of the script on it.
-fn open_over<S: ActorStore + Drop>(
+fn open_over<S: ActorStore + Drop, R: BufRead>(
     rt: &impl Print,
-    heap: Global,
     store: S,
     site: Site,
-    rest: &[u8],
+    review: &mut Review,
+    script: &mut Lines<R>,
 ) -> io::Result<Begun> {
     match Hub::open(store, site) {
         Ok(hub) => {
-            rt.println("ok")?;
-            run(rt, Desk::new(hub, heap), rest)?;
+            review.tell(rt, &Outcome::Made(Answer::Granted(Told::Done)))?;
+            run(rt, Desk::new(hub, script.heap()), review, script)?;
             Ok(Begun::Ran)
         }
         // the store comes back with the fault, and is let go
         Err(back) => {
-            tell_refusal(rt, back.0)?;
+            review.tell(rt, &Outcome::Made(Answer::Refused(back.0)))?;
             Ok(Begun::Unopened)
         }
     }
@@ -85,54 +120,99 @@ fn read_image(text: &[u8]) -> Result<Image, Fault> {
     Image::open(&block[..length])
 }
 
-fn open(
+fn open<R: BufRead>(
     rt: &impl Print,
-    heap: Global,
     store: Store<'_>,
     site: Site,
-    rest: &[u8],
+    review: &mut Review,
+    script: &mut Lines<R>,
 ) -> io::Result<Begun> {
     // two arms of one shape, each over a store of another type
     let fault = match store {
         Store::Table(list) => match Table::open(list.entries()) {
-            Ok(table) => return open_over(rt, heap, table, site, rest),
+            Ok(table) => return open_over(rt, table, site, review, script),
             Err(fault) => fault,
         },
         Store::Image(text) => match read_image(text) {
-            Ok(image) => return open_over(rt, heap, image, site, rest),
+            Ok(image) => return open_over(rt, image, site, review, script),
             Err(fault) => fault,
         },
     };
-    tell_refusal(rt, fault)?;
+    review.tell(rt, &Outcome::Made(Answer::Refused(fault)))?;
     Ok(Begun::Unopened)
 }
 
 // A line before the hub is open.
-fn begin(rt: &impl Print, heap: Global, line: &[u8], rest: &[u8]) -> io::Result<Begun> {
-    let told = match script::parse(line) {
-        Some(Call::Open { site, store }) => return open(rt, heap, store, site, rest),
-        Some(_) => "unready",
-        None => "unknown",
-    };
-    rt.println(told)?;
+fn begin<R: BufRead>(
+    rt: &impl Print,
+    line: &[u8],
+    review: &mut Review,
+    script: &mut Lines<R>,
+) -> io::Result<Begun> {
+    match script::read(line) {
+        Line::Passed => {}
+        Line::Wanted(outcome) => review.want(rt, script.number(), outcome)?,
+        Line::Call(Call::Open { site, store }) => return open(rt, store, site, review, script),
+        Line::Call(_) => review.tell(rt, &Outcome::Unready)?,
+        Line::Unknown(reason) => review.tell(rt, &Outcome::Unknown(reason))?,
+    }
     Ok(Begun::Unopened)
 }
 
-fn stage(rt: &impl Print, heap: Global, text: &[u8]) -> io::Result<()> {
-    let mut lines = Lines::new(text);
-    while let Some(line) = lines.next() {
-        if script::is_passed_over(line) {
-            continue;
-        }
-        if begin(rt, heap, line, lines.rest())? == Begun::Ran {
+// Runs a script as its lines come.
+fn stage<R: BufRead>(
+    rt: &impl Print,
+    review: &mut Review,
+    script: &mut Lines<R>,
+) -> io::Result<()> {
+    let mut line = script.blank();
+    for _ in 0..u64::MAX {
+        if !script.read(rt, &mut line)?
+            || begin(rt, line.as_slice(), review, script)? == Begun::Ran
+        {
             return Ok(());
         }
     }
-    Ok(())
+    Err(ErrorKind::FileTooLarge.into())
 }
 
-fn main(rt: HostRuntime) -> io::Result<()> {
-    let mut text = Vec::new(rt.alloc());
-    rt.stdin().read_to_end(&mut text)?;
-    stage(&rt, rt.alloc(), text.as_slice())
+// Runs the script that is named, or that of standard input.
+fn main(rt: HostRuntime) -> io::Result<ExitCode> {
+    let words: Vec<String> = env::args(&rt)?.collect(rt.alloc())?;
+    let matches = match command(rt.alloc())?.try_get_matches_from(words.as_slice()) {
+        Ok(matches) => matches,
+        Err(error) => {
+            error.print(&rt)?;
+            return Ok(ExitCode::from(error.exit_code() as u8));
+        }
+    };
+    let echo = matches.get_flag("echo");
+    let mut review = Review::new(rt.alloc());
+    let staged = match matches.get_str("FILE") {
+        Some(path) => match File::open(&rt, path) {
+            Ok(file) => {
+                let reader = BufReader::new(rt.alloc(), file)?;
+                stage(&rt, &mut review, &mut Lines::new(rt.alloc(), reader, echo))
+            }
+            Err(error) => {
+                eprintln!(rt; "{path}: {error}")?;
+                return Ok(ExitCode::from(2));
+            }
+        },
+        None => {
+            let reader = BufReader::new(rt.alloc(), rt.stdin())?;
+            stage(&rt, &mut review, &mut Lines::new(rt.alloc(), reader, echo))
+        }
+    };
+    match staged {
+        Ok(()) => {}
+        // nobody reads on
+        Err(error) if error.kind() == ErrorKind::BrokenPipe => {}
+        Err(error) => return Err(error),
+    }
+    Ok(if review.has_failed() {
+        ExitCode::FAILURE
+    } else {
+        ExitCode::SUCCESS
+    })
 }

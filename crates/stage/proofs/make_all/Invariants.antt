@@ -1,11 +1,10 @@
-use Rattle.hexadecimal.specs.Lines.{lines_of}
-use Rattle.model.specs.Models.{HubModel}
 use Rattle.hub.specs.Memory.{hub_model}
-use Rattle.stage.specs.Calls.{MakesAll}
+use Rattle.stage.specs.Reviews.{review_of}
+use Rattle.stage.proofs.Reading.{MadeSoFar}
 use Rattle.stage.proofs.make_all.Given as goal
 
--- what making the lines that are left leaves, making all of them from the start leaves
-abbrev pub invariant-loop-line : goal.invariant-loop-line
-invariant-loop-line g l =
+abbrev pub invariant-loop : goal.invariant-loop
+invariant-loop g l =
     let m = g.S.ActorStore.meaning in
-    (end : HubModel) → MakesAll (lines_of l.line-iterator) (hub_model m l.desk.hub) end → MakesAll (lines_of l.text) (hub_model m l.fn.desk.hub) end
+    let known = g.R.Read.remaining in
+    MadeSoFar (known l.fn.script.reader) (known l.script.reader) (hub_model m l.fn.desk.hub) (review_of l.fn.review) (hub_model m l.desk.hub) (review_of l.review)

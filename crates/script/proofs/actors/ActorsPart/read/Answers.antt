@@ -1,7 +1,7 @@
-use Rattle.std.proofs.Common.{ℕ, List, [], Some, None, ap, ◌∙◌}
-use Rattle.std.specs.Option.{option_map}
+use Rattle.std.proofs.Common.{◌≡◌, ℕ, List, rules, [], Ok, Err, ap, ◌∙◌}
 use Rattle.script.specs.Actors.{actors_of}
 use Rattle.script.specs.Lists.{comma, numbers_in, parts_of}
+use Rattle.script.specs.Reasons.{made, read_as, why}
 use Rattle.script.proofs.Entries.{entry_last, entry_more, first_entry, kept_with}
 use Rattle.script.proofs.actors.ActorsPart.read.Goals as goal
 
@@ -9,8 +9,20 @@ pub returns-in_err-read : goal.returns-in_err-read
 returns-in_err-read c =
     let kept = c.loop-entry.entries.items in
     let left = c.loop-entry.left.now in
-    c.from_residual.ensures
-    ∙ ap (option_map actors_of) (first_entry kept None c.in-Some.entry.now (parts_of comma c.in-Some.rest.now) (parts_of comma left) c.in-Some.ensures.parts c.in_err-read.ensures
+    let e = why c.in_err-read.field-0.0 in
+    let told : read_as c.from_residual.result ≡ Err e = search rules in
+    told
+    ∙ ap (made actors_of) (first_entry c.args.place kept (Err e) c.in-Some.entry.now (parts_of comma c.in-Some.rest.now) (parts_of comma left) c.in-Some.ensures.parts c.in_err-read.ensures
+    ∙ c.loop-entry.invariant)
+
+pub returns-in_err-read-2 : goal.returns-in_err-read-2
+returns-in_err-read-2 c =
+    let kept = c.loop-entry.entries.items in
+    let left = c.loop-entry.left.now in
+    let e = why c.in_err-read-2.field-0.0 in
+    let told : read_as c.from_residual-in_err-read-2.result ≡ Err e = search rules in
+    told
+    ∙ ap (made actors_of) (first_entry c.args.place kept (Err e) left [] (parts_of comma left) c.in_default.ensures.parts c.in_err-read-2.ensures
     ∙ c.loop-entry.invariant)
 
 pub loop-entry-preserved : goal.loop-entry-preserved
@@ -19,25 +31,17 @@ loop-entry-preserved c =
     let left = c.loop-entry.left.now in
     let n = c.in_ok-read.field-0 in
     let rest = parts_of comma c.in-Some.rest.now in
-    ap (λ (ns : List ℕ). kept_with ns (numbers_in rest)) c.keep.ensures
-    ∙ entry_more kept n (numbers_in rest)
-    ∙ first_entry kept (Some n) c.in-Some.entry.now rest (parts_of comma left) c.in-Some.ensures.parts c.in_ok-read.ensures
+    ap (λ (ns : List ℕ). kept_with ns (numbers_in c.args.place rest)) c.keep.ensures
+    ∙ entry_more kept n (numbers_in c.args.place rest)
+    ∙ first_entry c.args.place kept (Ok n) c.in-Some.entry.now rest (parts_of comma left) c.in-Some.ensures.parts c.in_ok-read.ensures
     ∙ c.loop-entry.invariant
-
-pub returns-in_err-read-2 : goal.returns-in_err-read-2
-returns-in_err-read-2 c =
-    let kept = c.loop-entry.entries.items in
-    let left = c.loop-entry.left.now in
-    c.from_residual-in_err-read-2.ensures
-    ∙ ap (option_map actors_of) (first_entry kept None left [] (parts_of comma left) c.in_default.ensures.parts c.in_err-read-2.ensures
-    ∙ c.loop-entry.invariant)
 
 pub returns : goal.returns
 returns c =
     let kept = c.loop-entry.entries.items in
     let left = c.loop-entry.left.now in
     let n = c.in_ok-read-2.field-0 in
-    ap (λ (ns : List ℕ). Some (actors_of ns)) c.keep-2.ensures
-    ∙ ap (option_map actors_of) (entry_last kept n
-    ∙ first_entry kept (Some n) left [] (parts_of comma left) c.in_default.ensures.parts c.in_ok-read-2.ensures
+    ap (λ (ns : List ℕ). Ok (actors_of ns)) c.keep-2.ensures
+    ∙ ap (made actors_of) (entry_last c.args.place kept n
+    ∙ first_entry c.args.place kept (Ok n) left [] (parts_of comma left) c.in_default.ensures.parts c.in_ok-read-2.ensures
     ∙ c.loop-entry.invariant)

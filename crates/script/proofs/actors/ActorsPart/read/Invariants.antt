@@ -4,7 +4,7 @@ use Rattle.script.proofs.Entries.{kept_with}
 use Rattle.script.proofs.actors.ActorsPart.read.Given as goal
 
 abbrev pub invariant-loop-entry : goal.invariant-loop-entry
-invariant-loop-entry l = kept_with l.entries.items (numbers_in (parts_of comma l.left)) ≡ list_in l.text
+invariant-loop-entry l = kept_with l.entries.items (numbers_in l.place (parts_of comma l.left)) ≡ list_in l.place l.text
 
 abbrev pub decreases-loop-entry : goal.decreases-loop-entry
 decreases-loop-entry l = length l.left

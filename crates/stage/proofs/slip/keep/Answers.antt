@@ -3,9 +3,9 @@ use Rattle.model.specs.Models.{HubModel, hub_after}
 use Rattle.hub.specs.Memory.{hub_model}
 use Rattle.hub.specs.Slips.{SlipModel}
 use Rattle.stage.specs.Slips.{handed_in}
-use Rattle.stage.specs.declared.slips.Fate.TheVariants.{Withheld}
+use Rattle.stage.specs.declared.slip.Fate.TheVariants.{Withheld}
 use Rattle.stage.proofs.Out.{holds_as, left, owed}
-use Rattle.stage.proofs.slips.keep.Goals as goal
+use Rattle.stage.proofs.slip.keep.Goals as goal
 
 pub spend-requires : goal.spend-requires
 spend-requires g c =

@@ -4,7 +4,7 @@ use Rattle.std.proofs.lemmas.Iterator.{YieldsList-from_slice}
 use Rattle.std.proofs.lemmas.Iterator.Search.{position_from_yields_List}
 use Rattle.stage.specs.Slips.{is_for}
 use Rattle.stage.proofs.Places.{place_found}
-use Rattle.stage.proofs.slips.place.Goals as goal
+use Rattle.stage.proofs.slip.place.Goals as goal
 
 pub returns-clause-answer : goal.returns-clause-answer
 returns-clause-answer c =

@@ -9,7 +9,7 @@ use hub::{Hub, Slip};
 use std::alloc::AllocError;
 use store::ActorStore;
 
-// What became of a packet. A case and no closure: one definition, `handed_in`, says of it what the hub is then, for all that pass it on.
+/// What became of a packet.
 #[derive(Clone, Copy, PartialEq, Eq, Debug)]
 pub(crate) enum Fate {
     Sent,

@@ -2,7 +2,7 @@ use Rattle.std.proofs.Common.{w16, to_z, of_z}
 use Rattle.store.specs.declared.actor_store.Half.TheVariants.{Actual, Target}
 use Rattle.hub.specs.Memory.{hub_model}
 use Rattle.stage.proofs.Out.{same_control, same_enrol, same_value}
-use Rattle.stage.proofs.calls.apply.Goals as goal
+use Rattle.stage.proofs.call.apply.Goals as goal
 
 pub returns-in-Enrol-clause-out : goal.returns-in-Enrol-clause-out
 returns-in-Enrol-clause-out g c =
