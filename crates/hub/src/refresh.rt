@@ -1,5 +1,5 @@
 // Writing a packet for a switch: its outstanding actors in list order, and last its control word.
-// A draft and its buffer are passed at each call, and `HasRoom` says what a call needs of the two: a struct of both, handed from call
+// A draft and its buffer are passed at each call, and `HasRoom` says what a call needs of the two: a struct of both, moved from call
 // to call, would need a starred clause in each to say that its buffer is still the caller's.
 ghost use Rattle.std.specs.Prelude.{◌≡◌, ◌+◌, ◌*◌, ◌≤◌, true, false, [], ◌∷◌, ◌++◌, length, drop, IsOk, if◌then◌else◌, FitsSigned, ◌==◌};
 ghost use Rattle.std.specs.Int.{w16};
