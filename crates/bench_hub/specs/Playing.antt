@@ -4,13 +4,16 @@ use Rattle.fault.specs.declared.CallFault.TheVariants.{NoSlip}
 use Rattle.fault.specs.declared.Fault.{Fault}
 use Rattle.fault.specs.declared.Fault.TheVariants as fault
 use Rattle.store.specs.declared.actor_store.Half.TheVariants as half
-use Rattle.model.specs.Composing.{compose, composed_bytes, sent, withheld}
+use Rattle.model.specs.Composing.{compose, composed_bytes}
 use Rattle.model.specs.Models.{HubModel, Step, answer_of, hub_after}
 use Rattle.model.specs.Opening.{enrol}
 use Rattle.model.specs.Questions.{actor_mark, control_mark, flags_of, key_of, outstanding_at, reading_at}
 use Rattle.model.specs.Settings.{set_control, set_value}
 use Rattle.model.specs.Taking.{take_payload}
 use Rattle.hub.specs.declared.composition.Composed.{Composed}
+use Rattle.hub.specs.declared.slip.Fate as slip
+use Rattle.hub.specs.declared.slip.Fate.TheVariants as fate
+use Rattle.hub.specs.Slips as hub
 use Rattle.hub.specs.Slips.{SlipModel}
 use Rattle.hub.specs.Compositions.{composition}
 use Rattle.bench_hub.specs.declared.call.Call.{Call}
@@ -45,10 +48,13 @@ applied h (plain.Reading switch) body = (outcome_of reading_told (reading_at h s
 applied h (plain.Outstanding switch) body = (outcome_of outstanding_told (outstanding_at h switch), h)
 
 -- handing a slip in: as sent, or else as withheld
+abbrev pub handing : Fate → slip.Fate
+handing Sent = fate.Sent
+handing Kept = fate.Withheld
+handing Withheld = fate.Withheld
+
 abbrev pub handed_in : Fate → HubModel → SlipModel → Step Unit
-handed_in Sent h x = sent h x.switch x.number
-handed_in Kept h x = withheld h x.switch x.number
-handed_in Withheld h x = withheld h x.switch x.number
+handed_in fate h x = hub.handed_in (handing fate) h x
 
 -- How things stand: the hub, and the slip that is kept.
 pub record Scene : Type 0 where

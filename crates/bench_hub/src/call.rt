@@ -1,4 +1,6 @@
 // The calls of a script.
+ghost use Rattle.std.specs.Prelude.{◌≡◌};
+ghost use Rattle.bench_hub.specs.Playing.{handing};
 
 // What becomes of a slip: it is kept, or handed in as sent or as withheld.
 #[derive(Clone, Copy)]
@@ -6,6 +8,18 @@ pub(crate) enum Fate {
     Kept,
     Sent,
     Withheld,
+}
+
+impl Fate {
+    // How a slip is handed in: as sent, or else as withheld.
+    pub(crate) fn handing(self) -> hub::Fate
+        ensures { result ≡ handing self }
+    {
+        match self {
+            Fate::Sent => hub::Fate::Sent,
+            Fate::Kept | Fate::Withheld => hub::Fate::Withheld,
+        }
+    }
 }
 
 // A call that opens and closes no slip. The list of an enrolment, and the payload of a take, are the data behind its head.

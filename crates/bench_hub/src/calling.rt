@@ -11,7 +11,7 @@ use crate::applying::apply;
 use crate::call::{Call, Fate};
 use crate::outcome::{Outcome, Told, UNTOLD, low_word};
 use crate::player::Player;
-use crate::slips::{keep, place, spend};
+use crate::slips::{keep, place};
 use hub::Composed;
 use store::ActorStore;
 
@@ -50,7 +50,7 @@ impl<S: ActorStore> Player<S> {
         let Some(slip) = self.kept.take() else {
             return Outcome::Idle;
         };
-        spend(&mut self.hub, slip, fate);
+        self.hub.hand_in(slip, fate.handing()).unwrap();
         Outcome::Done(UNTOLD)
     }
 

@@ -4,10 +4,8 @@ ghost use Rattle.std.specs.Option.{ForSome};
 ghost use Rattle.hub.specs.Memory.{hub_model};
 ghost use Rattle.hub.specs.Slips.{owed};
 
-use crate::call::Fate;
-use crate::slips::spend;
 use crate::stranger::Stranger;
-use hub::{Hub, Slip};
+use hub::{Fate, Hub, Slip};
 use store::ActorStore;
 
 // It is not `Drop`, since a kept slip is not to be let go: `finish` ends it.
@@ -41,7 +39,7 @@ impl<S: ActorStore + Drop> Player<S> {
             stranger: _,
         } = self;
         if let Some(slip) = kept {
-            spend(&mut hub, slip, Fate::Withheld);
+            hub.hand_in(slip, Fate::Withheld).unwrap();
         }
     }
 }

@@ -1,6 +1,5 @@
 // Slips: handed in to the hub that has them open, or kept.
 ghost use Rattle.std.specs.Prelude.{◌≡◌, true, None, Some, is_ok};
-ghost use Rattle.model.specs.Models.{hub_after};
 ghost use Rattle.hub.specs.Memory.{hub_model};
 ghost use Rattle.bench_hub.specs.Playing.{handed_in, placed, scene};
 
@@ -8,17 +7,6 @@ use crate::call::Fate;
 use hub::{Hub, Slip};
 use std::mem;
 use store::ActorStore;
-
-// Hands in a slip that the hub has open.
-pub(crate) fn spend<S: ActorStore>(hub: &mut Hub<S>, slip: Slip, fate: Fate)
-    requires owed { is_ok (handed_in fate (hub_model S.meaning hub.old) slip) ≡ true }
-    ensures { hub_model S.meaning hub.new ≡ hub_after (hub_model S.meaning hub.old) (handed_in fate (hub_model S.meaning hub.old) slip) }
-{
-    match fate {
-        Fate::Sent => hub.sent(slip).unwrap(),
-        Fate::Kept | Fate::Withheld => hub.withheld(slip).unwrap(),
-    }
-}
 
 // Keeps a slip where none is kept.
 pub(crate) fn keep(kept: &mut Option<Slip>, slip: Slip)
@@ -43,6 +31,6 @@ pub(crate) fn place<S: ActorStore>(
 {
     match fate {
         Fate::Kept if kept.is_none() => keep(kept, slip),
-        _ => spend(hub, slip, fate),
+        _ => hub.hand_in(slip, fate.handing()).unwrap(),
     }
 }

@@ -39,11 +39,7 @@ impl Stranger {
     pub(crate) fn refuse(&mut self, slip: Slip, fate: Fate) -> (Fault, Slip)
         ensures { result ≡ (Call NoSlip 0, slip) }
     {
-        let answer = match fate {
-            Fate::Sent => self.hub.sent(slip),
-            Fate::Kept | Fate::Withheld => self.hub.withheld(slip),
-        };
-        match answer {
+        match self.hub.hand_in(slip, fate.handing()) {
             Ok(()) => unreachable!(),
             Err(back) => back,
         }

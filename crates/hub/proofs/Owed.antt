@@ -22,7 +22,8 @@ owed h id buf told after answer now = go (compose h id buf) refl answer now
         ∙ ap (λ (k : HubModel). is_ok (sent k id x.0.number)) s
         ∙ slip_is_owed h id buf x.0 x.1 q
 
-granted : (slip : SlipModel) (s : Step Unit) (r : Result Unit (Fault × SlipModel)) → is_ok s ≡ true → r ≡ slip_answer slip s → IsOk r
+-- a hand-in that the hub grants
+pub granted : (slip : SlipModel) (s : Step Unit) (r : Result Unit (Fault × SlipModel)) → is_ok s ≡ true → r ≡ slip_answer slip s → IsOk r
 granted slip (Ok p) r k e = search rules
 granted slip (Err f) r k e = search rules
 

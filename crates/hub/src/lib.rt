@@ -12,4 +12,4 @@ mod slip;
 
 pub use composition::Composed;
 pub use hub::Hub;
-pub use slip::Slip;
+pub use slip::{Fate, Slip};

@@ -3,12 +3,19 @@ ghost use Rattle.std.specs.Prelude.{◌≡◌, true, false, IfOk, IfErr, OnOk, O
 ghost use Rattle.model.specs.Composing.{sent as sent_step, withheld as withheld_step};
 ghost use Rattle.model.specs.Models.{hub_after};
 ghost use Rattle.hub.specs.Memory.{hub_model};
-ghost use Rattle.hub.specs.Slips.{owed, slip_answer};
+ghost use Rattle.hub.specs.Slips.{handed_in, owed, slip_answer};
 
 use crate::hub::Hub;
 use fault::{CallFault, Fault};
 use std::marker::Model;
 use store::ActorStore;
+
+/// What became of a packet.
+#[derive(Clone, Copy, PartialEq, Eq, Debug)]
+pub enum Fate {
+    Sent,
+    Withheld,
+}
 
 /// The slip of a composed packet: plain numbers, and owed to the hub that composed it, which takes it by `sent` or `withheld`.
 ///
@@ -106,5 +113,16 @@ impl<S: ActorStore> Hub<S> {
         let id = self.redeem(slip)?;
         self.change(id, |switch| switch.bring_back());
         Ok(())
+    }
+
+    /// Hands in a slip by what became of its packet: the call is `sent` or `withheld`.
+    pub fn hand_in(&mut self, slip: Slip, fate: Fate) -> Result<(), (Fault, Slip)>
+        ensures answer { result ≡ slip_answer slip (handed_in fate (hub_model S.meaning self.old) slip) }
+        ensures after { hub_model S.meaning self.new ≡ hub_after (hub_model S.meaning self.old) (handed_in fate (hub_model S.meaning self.old) slip) }
+    {
+        match fate {
+            Fate::Sent => self.sent(slip),
+            Fate::Withheld => self.withheld(slip),
+        }
     }
 }

@@ -23,11 +23,11 @@ use Rattle.law.proofs.Switches.{KeepsId, one_step}
 use Rattle.hub.specs.Compositions.{composition}
 use Rattle.hub.specs.Memory.{handed_back}
 use Rattle.hub.specs.declared.composition.Composed.{Composed}
-use Rattle.hub.specs.Slips.{SlipModel, slip_in, slip_out}
+use Rattle.hub.specs.Slips.{SlipModel, handed_in, slip_in, slip_out}
 use Rattle.hub.proofs.Kept.{SameSlips, slips_control, slips_enrol, slips_take, slips_value, vacant}
-use Rattle.stage.specs.Slips.{HoldsAll, SameOut, handed_in, numbers_for}
-use Rattle.stage.specs.declared.slip.Fate.{Fate}
-use Rattle.stage.specs.declared.slip.Fate.TheVariants.{Sent, Withheld}
+use Rattle.stage.specs.Slips.{HoldsAll, SameOut, numbers_for}
+use Rattle.hub.specs.declared.slip.Fate.{Fate}
+use Rattle.hub.specs.declared.slip.Fate.TheVariants.{Sent, Withheld}
 
 pub holds_new : (site : Site) (store : Known) → HoldsAll (new_hub site store) []
 unfolding numbers_for

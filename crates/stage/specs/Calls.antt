@@ -22,7 +22,7 @@ use Rattle.stage.specs.Slips.{HoldsAll, handed_for, handed_told, place_for}
 use Rattle.stage.specs.declared.outcome.Answer.{Answer}
 use Rattle.stage.specs.declared.outcome.Answer.TheVariants as answer
 use Rattle.stage.specs.declared.outcome.Outcome.TheVariants as outcome
-use Rattle.stage.specs.declared.slip.Fate.TheVariants.{Sent, Withheld}
+use Rattle.hub.specs.declared.slip.Fate.TheVariants.{Sent, Withheld}
 
 -- the hub takes the bytes that a line of digits spells; where it is no such line, it tells so, and nothing changes
 abbrev pub Takes : List ℕ → Option Answer → HubModel → HubModel → Type 0

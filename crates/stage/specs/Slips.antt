@@ -1,14 +1,12 @@
 -- The slips that a program holds, beside those that its hub has out.
 use Rattle.std.specs.Prelude.{◌≡◌, ℕ, suc, Bool, cond, ◌&&◌, List, [], ◌∷◌, Some, None, Option, ◌==◌}
 use Rattle.std.specs.Option.{option_map, option_to_list}
-use Rattle.model.specs.Composing as composing
-use Rattle.model.specs.Models.{HubModel, Step, hub_after}
-use Rattle.hub.specs.Slips.{SlipModel, slip_out}
+use Rattle.model.specs.Models.{HubModel, hub_after}
+use Rattle.hub.specs.declared.slip.Fate.{Fate}
+use Rattle.hub.specs.Slips.{SlipModel, handed_in, slip_out}
 use Rattle.stage.specs.declared.outcome.Answer.{Answer}
 use Rattle.stage.specs.declared.outcome.Answer.TheVariants as answer
 use Rattle.stage.specs.declared.outcome.Told.TheVariants as told
-use Rattle.stage.specs.declared.slip.Fate.{Fate}
-use Rattle.stage.specs.declared.slip.Fate.TheVariants.{Sent, Withheld}
 
 -- the numbers of the slips for one switch, in order
 unfoldable pub numbers_for : ℕ → List SlipModel → List ℕ
@@ -30,11 +28,6 @@ is_for switch number x = x.switch == switch && x.number == number
 unfoldable pub place_for : ℕ → ℕ → List SlipModel → Option ℕ
 place_for switch number [] = None
 place_for switch number (x ∷ slips) = cond (is_for switch number x) (Some 0) (option_map suc (place_for switch number slips))
-
--- what handing a slip in is to the hub, by what became of its packet
-abbrev pub handed_in : Fate → HubModel → SlipModel → Step Unit
-handed_in Sent h x = composing.sent h x.switch x.number
-handed_in Withheld h x = composing.withheld h x.switch x.number
 
 -- the slip for a packet is handed in if it is at hand; else nothing changes
 abbrev pub handed_for : Fate → HubModel → ℕ → ℕ → Option ℕ → HubModel

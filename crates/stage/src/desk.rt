@@ -3,16 +3,16 @@ ghost use Rattle.std.specs.Prelude.{◌≡◌, ◌+◌, ◌<◌, ◌≤◌, Some
 ghost use Rattle.std.specs.Result.{result_ok};
 ghost use Rattle.model.specs.Models.{hub_after};
 ghost use Rattle.hub.specs.Memory.{hub_model};
-ghost use Rattle.hub.specs.Slips.{SlipModel};
+ghost use Rattle.hub.specs.Slips.{SlipModel, handed_in};
 ghost use Rattle.script.specs.Calls.{said};
 ghost use Rattle.stage.specs.Calls.{Composes, Leaves};
-ghost use Rattle.stage.specs.Slips.{HoldsAll, handed_for, handed_in, handed_told, place_for};
+ghost use Rattle.stage.specs.Slips.{HoldsAll, handed_for, handed_told, place_for};
 
 use crate::call::apply;
 use crate::outcome::{Answer, Packet, Told};
-use crate::slip::{Fate, keep, place, spend};
+use crate::slip::{keep, place};
 use arrayvec::ArrayVec;
-use hub::{Composed, Hub, Slip};
+use hub::{Composed, Fate, Hub, Slip};
 use packet::PAYLOAD_MOST;
 use script::Call;
 use std::alloc::{AllocError, Global};
@@ -45,7 +45,7 @@ impl<S: ActorStore> Desk<S> {
         ensures fewer { vec_len self.new.held + 1 ≡ vec_len self.old.held }
     {
         let slip = self.held.remove(i);
-        spend(&mut self.hub, slip, fate);
+        self.hub.hand_in(slip, fate).unwrap();
     }
 
     // Composes into a buffer, and keeps the slip.

@@ -1,20 +1,12 @@
 // The slips that are out: kept until the script hands them in.
 ghost use Rattle.std.specs.Prelude.{◌≡◌, ◌<◌, true, [], ◌∷◌, ◌++◌, length, IfSome, is_ok};
-ghost use Rattle.model.specs.Models.{hub_after};
 ghost use Rattle.hub.specs.Memory.{hub_model};
 ghost use Rattle.stage.specs.Calls.{Keeps};
-ghost use Rattle.stage.specs.Slips.{HoldsAll, handed_in, place_for};
+ghost use Rattle.stage.specs.Slips.{HoldsAll, place_for};
 
-use hub::{Hub, Slip};
+use hub::{Fate, Hub, Slip};
 use std::alloc::AllocError;
 use store::ActorStore;
-
-/// What became of a packet.
-#[derive(Clone, Copy, PartialEq, Eq, Debug)]
-pub(crate) enum Fate {
-    Sent,
-    Withheld,
-}
 
 // Where the slip for that packet stands, if it is at hand.
 pub(crate) fn place(held: &[Slip], switch: u16, number: u16) -> Option<usize>
@@ -23,17 +15,6 @@ pub(crate) fn place(held: &[Slip], switch: u16, number: u16) -> Option<usize>
 {
     held.iter()
         .position(|slip| slip.switch() == switch && slip.number() == number)
-}
-
-// Hands in a slip that the hub is known to have out.
-pub(crate) fn spend<S: ActorStore>(hub: &mut Hub<S>, slip: Slip, fate: Fate)
-    requires owed { is_ok (handed_in fate (hub_model S.meaning hub.old) slip) ≡ true }
-    ensures { hub_model S.meaning hub.new ≡ hub_after (hub_model S.meaning hub.old) (handed_in fate (hub_model S.meaning hub.old) slip) }
-{
-    match fate {
-        Fate::Sent => hub.sent(slip).unwrap(),
-        Fate::Withheld => hub.withheld(slip).unwrap(),
-    }
 }
 
 // Keeps a slip with the others. Where memory is short, its packet is withheld. By the two fields of a `Desk`,
@@ -47,11 +28,11 @@ pub(crate) fn keep<S: ActorStore>(
     ensures holds { HoldsAll (hub_model S.meaning hub.new) held.new.items }
     ensures kept { Keeps (is_ok result) slip.switch slip.number (hub_model S.meaning hub.old) (hub_model S.meaning hub.new) }
 {
-    // a match, since the slip that comes back is spent on the way
+    // a match, since the slip that comes back is handed in on the way
     match held.push(slip) {
         Ok(()) => Ok(()),
         Err(back) => {
-            spend(hub, back.value, Fate::Withheld);
+            hub.hand_in(back.value, Fate::Withheld).unwrap();
             Err(AllocError)
         }
     }

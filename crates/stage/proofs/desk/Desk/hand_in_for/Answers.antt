@@ -1,8 +1,8 @@
 use Rattle.std.proofs.Common.{◌≡◌, Some, sym, ap, ◌∙◌}
 use Rattle.model.specs.Models.{hub_after}
 use Rattle.hub.specs.Memory.{hub_model}
-use Rattle.hub.specs.Slips.{SlipModel}
-use Rattle.stage.specs.Slips.{handed_for, handed_in, handed_told, place_for}
+use Rattle.hub.specs.Slips.{SlipModel, handed_in}
+use Rattle.stage.specs.Slips.{handed_for, handed_told, place_for}
 use Rattle.stage.proofs.Places.{place_is}
 use Rattle.stage.proofs.desk.Desk.hand_in_for.Goals as goal
 
