@@ -1,56 +1,72 @@
--- A list of actors, checked entry by entry.
-use Rattle.std.proofs.Common.{◌≡◌, ℕ, ◌+◌, ◌≤◌, Bool, true, false, cond, ◌||◌, eqb, List, [], ◌∷◌, ◌++◌, length, take, drop, is_some, Some, None, sym, refl, ap, ◌∙◌, arith, ◌==◌}
-use Rattle.std.proofs.lemmas.List.{at_drop_all}
-use Rattle.std.proofs.lemmas.List.Folds.{list_any-append}
-use Rattle.std.proofs.lemmas.Bool.{both_ways, eq-eqb, eqb-true, false_from_ne_true, or_from, or_left, or_parts, or_right}
+-- A list of actors, listed entry by entry.
+use Rattle.std.proofs.Common.{◌≡◌, ℕ, suc, ◌+◌, ◌<◌, ◌≤◌, Bool, true, false, cond, not, ◌||◌, eqb, List, [], ◌∷◌, ◌++◌, map, length, get_or, take, drop, ℤ, is_some, is_err, Some, None, Option, Result, sym, refl, ap, ◌∙◌, ap₂, subst, arith, drop-cons}
+use Rattle.std.proofs.lemmas.List.{at_drop_all, length-map, length-take-le, map-append, take_more}
+use Rattle.std.proofs.lemmas.Bool.{cond-false, cond-true, lt-leb, not-false, not-true}
+use Rattle.std.specs.Option.{ok_or}
+use Rattle.fault.specs.declared.Fault.{Fault}
 use Rattle.fault.specs.declared.Fault.TheVariants.{Store}
 use Rattle.fault.specs.declared.StoreFault.TheVariants.{ListEntry, UnknownActor}
-use Rattle.model.specs.Opening.{entry_fault}
+use Rattle.model.specs.declared.item.Item.{Item}
+use Rattle.model.specs.declared.mark.Mark.TheVariants.{Due}
+use Rattle.model.specs.Models.{lists_actor, with_marks}
+use Rattle.model.specs.Opening.{due_item, entry_fault, new_switch}
 use Rattle.store.specs.Lists.{lists}
-use Rattle.store.specs.Meaning.{Known}
-use Rattle.switch.specs.Items.{repeats}
-use Rattle.switch.proofs.Searches.{stands}
+use Rattle.store.specs.Meaning.{Known, read_answer, unknown_actor}
+use Rattle.switch.specs.Items.{listing, may_list}
+
+listed_due : (a : ℕ) (ys : List ℕ) → lists_actor a (map due_item ys) ≡ lists ys a
+listed_due a [] = refl
+listed_due a (y ∷ ys) = ap (λ (t : Bool). eqb y a || t) (listed_due a ys)
+
+-- what a new switch with room may list
+may_list_new : (a : ℕ) (ys : List ℕ) → length ys < 64 → may_list a (map due_item ys) ≡ not (eqb a 0 || lists ys a)
+may_list_new a ys l =
+    ap₂ (λ (s t : Bool). not (eqb a 0 || (s || t))) (lt-leb 64 (length (map due_item ys)) (subst (λ (n : ℕ). n < 64) (sym (length-map ys due_item)) l)) (listed_due a ys)
+
+-- a store that does not tell an actor's values does not know it
+pub known : (m : Known) (a : ℕ) (r : Result (ℤ × ℤ) Fault) (t : Bool) → r ≡ read_answer m a → is_err r ≡ t → is_some (m a) ≡ not t
+known m a r t e h = go (m a) (ap is_err (sym e) ∙ h)
+  where
+    go : (o : Option (ℤ × ℤ)) → is_err (ok_or o unknown_actor) ≡ t → is_some o ≡ not t
+    go (Some v) q = ap not q
+    go None q = ap not q
+
+one_more : (n : ℕ) → suc n ≡ n + 1
+one_more n = omega arith
 
 module _ (m : Known) (xs : List ℕ) (i : ℕ) (inv : entry_fault m (take i xs) i (drop i xs) ≡ entry_fault m [] 0 xs) where
   pub entries_end : length xs ≤ i → entry_fault m [] 0 xs ≡ None
   entries_end h = sym inv ∙ at_drop_all (entry_fault m (take i xs) i) xs i h
 
--- what is known of an entry where it and the rest have no fault
-first_entry : (m : Known) (before : List ℕ) (i a : ℕ) (xs : List ℕ) → entry_fault m before i (a ∷ xs) ≡ None
-    → ((eqb a 0 || lists before a) ≡ false) × (entry_fault m (before ++ a ∷ []) (i + 1) xs ≡ None)
-first_entry m before i a xs e = ways (eqb a 0 || lists before a) (is_some (m a)) e
-  where
-    ways : (bad known : Bool)
-        → cond bad (Some (Store ListEntry i)) (cond known (entry_fault m (before ++ a ∷ []) (i + 1) xs) (Some (Store UnknownActor i))) ≡ None
-        → (bad ≡ false) × (entry_fault m (before ++ a ∷ []) (i + 1) xs ≡ None)
-    ways true known f = absurd (grind arith)
-    ways false false f = absurd (grind arith)
-    ways false true f = (refl, f)
+  -- the entry at i
+  module _ (h : i < length xs) (few : length xs ≤ 64) where
+    abbrev a : ℕ
+    a = get_or xs i 0
 
--- a list without a fault has no zero entry
-pub entries_named : (m : Known) (before : List ℕ) (i : ℕ) (xs : List ℕ) → entry_fault m before i xs ≡ None → lists xs 0 ≡ false
-entries_named m before i [] e = refl
-entries_named m before i (a ∷ xs) e =
-    let p = first_entry m before i a xs e in
-    or_from _ _ (or_parts (eqb a 0) (lists before a) p.0).0 (entries_named m (before ++ a ∷ []) (i + 1) xs p.1)
+    rest : drop i xs ≡ a ∷ drop (i + 1) xs
+    rest = drop-cons xs i 0 h ∙ ap (λ (n : ℕ). a ∷ drop n xs) (one_more i)
 
-listed_with : (xs : List ℕ) (a b : ℕ) → lists (xs ++ a ∷ []) b ≡ (lists xs b || (eqb a b || false))
-listed_with xs a b = sym (stands b (xs ++ a ∷ [])) ∙ list_any-append (λ x. x == b) xs (a ∷ []) ∙ ap (λ (t : Bool). t || (eqb a b || false)) (stands b xs)
+    here : cond (eqb a 0 || lists (take i xs) a) (Some (Store ListEntry i)) (cond (is_some (m a)) (entry_fault m (take (i + 1) xs) (i + 1) (drop (i + 1) xs)) (Some (Store UnknownActor i)))
+        ≡ entry_fault m [] 0 xs
+    here =
+        ap (λ (l : List ℕ). cond (eqb a 0 || lists (take i xs) a) (Some (Store ListEntry i)) (cond (is_some (m a)) (entry_fault m l (i + 1) (drop (i + 1) xs)) (Some (Store UnknownActor i))))
+        (take_more xs i 0 h)
+        ∙ sym (ap (entry_fault m (take i xs) i) rest)
+        ∙ inv
 
--- nor one that stands before it
-entries_new : (m : Known) (before : List ℕ) (i : ℕ) (xs : List ℕ) → entry_fault m before i xs ≡ None → (b : ℕ) → lists before b ≡ true → lists xs b ≡ false
-entries_new m before i [] e b h = refl
-entries_new m before i (a ∷ xs) e b h =
-    let p = first_entry m before i a xs e in
-    let new : lists before a ≡ false = (or_parts (eqb a 0) (lists before a) p.0).1 in
-    or_from _ _ (false_from_ne_true (eqb a b) (λ q. both_ways (lists before b) (sym (ap (lists before) (eqb-true a b q)) ∙ new) h))
-    (entries_new m (before ++ a ∷ []) (i + 1) xs p.1 b (listed_with before a b ∙ or_left _ _ h))
+    may : may_list a (map due_item (take i xs)) ≡ not (eqb a 0 || lists (take i xs) a)
+    may = let l = length-take-le i xs (omega arith) in may_list_new a (take i xs) (omega arith)
 
--- nor one twice
-pub entries_distinct : (m : Known) (before : List ℕ) (i : ℕ) (xs : List ℕ) → entry_fault m before i xs ≡ None → repeats xs ≡ false
-entries_distinct m before i [] e = refl
-entries_distinct m before i (a ∷ xs) e =
-    let p = first_entry m before i a xs e in
-    or_from _ _
-    (entries_new m (before ++ a ∷ []) (i + 1) xs p.1 a (listed_with before a a ∙ or_right _ _ (or_left _ _ (eq-eqb a a refl))))
-    (entries_distinct m (before ++ a ∷ []) (i + 1) xs p.1)
+    pub refused : may_list a (map due_item (take i xs)) ≡ false → entry_fault m [] 0 xs ≡ Some (Store ListEntry i)
+    refused e = sym here ∙ cond-true _ _ _ (not-false _ (sym may ∙ e))
+
+    pub unknown_entry : may_list a (map due_item (take i xs)) ≡ true → is_some (m a) ≡ false → entry_fault m [] 0 xs ≡ Some (Store UnknownActor i)
+    unknown_entry e k = sym here ∙ cond-false _ _ _ (not-true _ (sym may ∙ e)) ∙ cond-false _ _ _ k
+
+    pub next : may_list a (map due_item (take i xs)) ≡ true → is_some (m a) ≡ true → entry_fault m (take (i + 1) xs) (i + 1) (drop (i + 1) xs) ≡ entry_fault m [] 0 xs
+    next e k = sym (cond-true _ _ _ k) ∙ sym (cond-false _ _ _ (not-true _ (sym may ∙ e))) ∙ here
+
+    pub listed : (id : ℕ) → listing a (new_switch id (take i xs)) ≡ new_switch id (take (i + 1) xs)
+    listed id =
+        ap (λ (items : List Item). with_marks items Due (new_switch id [])) (sym (map-append due_item (take i xs) (a ∷ [])))
+        ∙ ap (new_switch id) (sym (take_more xs i 0 h))

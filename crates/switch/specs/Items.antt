@@ -1,7 +1,9 @@
 -- What is true of every switch: each of its items names an actor, no two the same one, and its next package number is not 0.
-use Rattle.std.specs.Prelude.{◌≡◌, ℕ, Bool, true, false, not, ◌&&◌, ◌||◌, List, [], ◌∷◌, map, ◌==◌}
+use Rattle.std.specs.Prelude.{◌≡◌, ℕ, Bool, true, false, not, ◌&&◌, ◌||◌, List, [], ◌∷◌, ◌++◌, map, length, ◌==◌, nat_le}
 use Rattle.store.specs.Lists.{lists}
 use Rattle.model.specs.declared.item.Item.{Item}
+use Rattle.model.specs.Models.{SwitchModel, lists_actor}
+use Rattle.model.specs.Opening.{due_item}
 
 abbrev pub all_named : List Item → Bool
 all_named [] = true
@@ -24,3 +26,11 @@ pub record LawfulItems (items : List Item) : Type 0 where
 pub record LawfulSwitch (items : List Item) (next : ℕ) : Type 0 where
   pub listed : LawfulItems items
   pub numbered : (next == 0) ≡ false
+
+-- an actor that a switch with these items has room for and does not list yet
+abbrev pub may_list : ℕ → List Item → Bool
+may_list a items = not (a == 0 || (nat_le 64 (length items) || lists_actor a items))
+
+-- one actor more, behind the others and due
+abbrev pub listing : ℕ → SwitchModel → SwitchModel
+listing a m = record { id = m.id; items = m.items ++ due_item a ∷ []; control = m.control; mark = m.mark; numbers = m.numbers; report = m.report }

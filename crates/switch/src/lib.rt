@@ -6,4 +6,4 @@ mod row;
 mod switch;
 
 pub use row::{find, touch_all};
-pub use switch::{MOST_ACTORS, Switch, stands_in};
+pub use switch::{MOST_ACTORS, Switch};

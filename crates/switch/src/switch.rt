@@ -1,31 +1,32 @@
 // An enrolled switch as the hub keeps it, in fixed memory: how one begins, what it can be asked, and what can happen to it alone.
-ghost use Rattle.std.specs.Prelude.{◌≡◌, ◌≤◌, true, false, ◌||◌, [], length, if◌then◌else◌, Some, None, ◌==◌, nat_lt};
+ghost use Rattle.std.specs.Prelude.{◌≡◌, ◌≤◌, true, false, [], length, if◌then◌else◌, ◌==◌};
 ghost use Rattle.model.specs.Composing.{brought_back, closed_slip, composed, has_outstanding, number_after, outstanding_actors};
 ghost use Rattle.model.specs.Models.{all_moved, lists_actor, mark_of_actor, touched, with_control};
 ghost use Rattle.model.specs.Opening.{new_switch};
 ghost use Rattle.model.specs.Taking.{answered, with_key, with_reading, with_state};
-ghost use Rattle.store.specs.Lists.{lists};
-ghost use Rattle.switch.specs.Items.{all_named, repeats};
+ghost use Rattle.switch.specs.Items.{all_named, listing, may_list};
 
 use crate::items;
 use arrayvec::ArrayVec;
 use model::{Change, Item, KeyPress, Mark, Numbers, Report};
 use std::marker::Model;
 
-// How many actors a switch lists at most.
+/// How many actors a switch lists at most.
 pub const MOST_ACTORS: usize = 64;
 
 // The control word that a switch begins with.
 const FIRST_CONTROL: u32 = 0x0000_0130;
 
+/// A switch in memory: its list of actors with their marks, its control word, its package numbers, and what it last reported.
+// A clause sees it as a `SwitchModel`.
 #[derive(Clone, Drop)]
 pub struct Switch {
-    pub(crate) id: u16,
-    pub(crate) items: ArrayVec<Item, MOST_ACTORS>,
-    pub(crate) control: u32,
-    pub(crate) mark: Mark,
-    pub(crate) numbers: Numbers,
-    pub(crate) report: Report,
+    id: u16,
+    items: ArrayVec<Item, MOST_ACTORS>,
+    control: u32,
+    mark: Mark,
+    numbers: Numbers,
+    report: Report,
 }
 
 // Every item names an actor, no two the same one, and no packet has number 0, which marks an event.
@@ -40,63 +41,12 @@ impl Model for Switch {
     ghost invariant = { λ s. LawfulSwitch s.items.items s.numbers.next };
 }
 
-// Whether an actor stands in a list.
-pub fn stands_in(list: &[u16], actor: u16) -> bool
-    ensures { result ≡ lists list.now actor }
-{
-    list.contains(&actor)
-}
-
-// Whether an entry stands in a list again behind its first place.
-fn has_repeats(list: &[u16]) -> bool
-    ensures { result ≡ repeats list.now }
-{
-    for (i, &actor) in list.iter().enumerate() {
-        if stands_in(&list[i + 1..], actor) {
-            return true;
-        }
-    }
-    false
-}
-
-// A switch as it is enrolled, with every item due.
-fn enrolled(id: u16, actors: &[u16]) -> Switch
-    requires few { length actors.now ≤ 64 }
-    requires named { lists actors.now 0 ≡ false }
-    requires distinct { repeats actors.now ≡ false }
-    ensures { result ≡ new_switch id actors.now }
-{
-    let mut items = ArrayVec::new();
-    for actor in actors {
-        items.push(Item {
-            actor: *actor,
-            mark: Mark::Due,
-        });
-    }
-    Switch {
-        id,
-        items,
-        control: FIRST_CONTROL,
-        mark: Mark::Due,
-        numbers: Numbers {
-            next: 1,
-            awaited: None,
-            slip: None,
-        },
-        report: Report {
-            flags: 0,
-            key: None,
-            reading: None,
-        },
-    }
-}
-
 // A switch that lists nothing, for the room that no switch has taken yet. By hand: a derived one would have control word 0 and nothing due.
 impl Default for Switch {
     ghost is_default = { λ s. s ≡ new_switch 0 [] };
 
     fn default() -> Switch {
-        enrolled(0, &[])
+        Switch::new(0)
     }
 }
 
@@ -108,17 +58,52 @@ fn number_after(number: u16) -> u16
 }
 
 impl Switch {
-    // A switch with this list, if it has room for it and every entry names an actor of its own.
-    pub fn new(id: u16, actors: &[u16]) -> Option<Switch>
-        ensures { result ≡ (if nat_lt 64 (length actors.now) || lists actors.now 0 || repeats actors.now then None else Some (new_switch id actors.now)) }
+    /// A switch that lists no actor yet, with control word 0x00000130 due and next package number 1.
+    pub fn new(id: u16) -> Switch
+        ensures { result ≡ new_switch id [] }
     {
-        if actors.len() > MOST_ACTORS || stands_in(actors, 0) || has_repeats(actors) {
-            return None;
+        Switch {
+            id,
+            items: ArrayVec::new(),
+            control: FIRST_CONTROL,
+            mark: Mark::Due,
+            numbers: Numbers {
+                next: 1,
+                awaited: None,
+                slip: None,
+            },
+            report: Report {
+                flags: 0,
+                key: None,
+                reading: None,
+            },
         }
-        Some(enrolled(id, actors))
     }
 
-    // The items, in list order.
+    /// Lists an actor behind the others, due, and tells true. Actor 0, one that is listed, and any beyond 64 it does not
+    /// list: all stays as it was, and it tells false.
+    pub fn list(&mut self, actor: u16) -> bool
+        ensures answer { result ≡ may_list actor self.old.items }
+        ensures after { self.new ≡ (if may_list actor self.old.items then listing actor self.old else self.old) }
+    {
+        if actor == 0 || self.items.is_full() || self.lists(actor) {
+            return false;
+        }
+        self.items.push(Item {
+            actor,
+            mark: Mark::Due,
+        });
+        true
+    }
+
+    /// The SwitchID.
+    pub fn id(&self) -> u16
+        ensures { result ≡ self.now.id }
+    {
+        self.id
+    }
+
+    /// The items, in list order.
     pub fn items(&self) -> &[Item]
         ensures items { result.now ≡ self.now.items }
         ensures named { all_named result.now ≡ true }
@@ -127,36 +112,14 @@ impl Switch {
         self.items.as_slice()
     }
 
-    pub fn control(&self) -> u32
-        ensures { result ≡ self.now.control }
-    {
-        self.control
-    }
-
-    // How many actors are outstanding.
-    pub fn outstanding_actors(&self) -> usize
-        ensures answer { result ≡ outstanding_actors self.now.items }
-        ensures few { result ≤ 64 }
-    {
-        self.items
-            .iter()
-            .filter(|item| item.mark.is_outstanding())
-            .count()
-    }
-
-    pub fn id(&self) -> u16
-        ensures { result ≡ self.now.id }
-    {
-        self.id
-    }
-
+    /// Whether the switch lists an actor.
     pub fn lists(&self, actor: u16) -> bool
         ensures { result ≡ lists_actor actor self.now.items }
     {
         self.items.iter().any(|item| item.actor == actor)
     }
 
-    // The mark of an actor that the switch lists.
+    /// The mark of an actor, if the switch lists it.
     pub fn mark_of(&self, actor: u16) -> Option<Mark>
         ensures { result ≡ mark_of_actor actor self.now.items }
     {
@@ -164,18 +127,28 @@ impl Switch {
         found.map(|item| item.mark)
     }
 
+    /// The control word.
+    pub fn control(&self) -> u32
+        ensures { result ≡ self.now.control }
+    {
+        self.control
+    }
+
+    /// The mark of the control word.
     pub fn control_mark(&self) -> Mark
         ensures { result ≡ self.now.mark }
     {
         self.mark
     }
 
+    /// What the switch last reported: its flags, its latest key, and its reading in tenths of a degree.
     pub fn report(&self) -> Report
         ensures { result ≡ self.now.report }
     {
         self.report
     }
 
+    /// The package numbers: of the next packet, of the awaited answer, and of the open slip.
     pub fn numbers(&self) -> Numbers
         ensures { result ≡ self.now.numbers }
     {
@@ -190,14 +163,25 @@ impl Switch {
         self.numbers.next
     }
 
-    // Whether the switch must still be told of anything, or has not answered yet.
+    /// How many actors are outstanding.
+    pub fn outstanding_actors(&self) -> usize
+        ensures answer { result ≡ outstanding_actors self.now.items }
+        ensures few { result ≤ 64 }
+    {
+        self.items
+            .iter()
+            .filter(|item| item.mark.is_outstanding())
+            .count()
+    }
+
+    /// Whether an actor or the control word is outstanding: due, or under way.
     pub fn has_outstanding(&self) -> bool
         ensures { result ≡ has_outstanding self.now }
     {
         items::any_outstanding(self.items.as_slice()) || self.mark.is_outstanding()
     }
 
-    // An actor becomes due, where the switch lists it.
+    /// An actor becomes due, where the switch lists it; else all stays as it was.
     pub fn touch(&mut self, actor: u16)
         ensures { self.new ≡ touched actor self.old }
     {
@@ -212,7 +196,7 @@ impl Switch {
         self.mark.note(change);
     }
 
-    // The control word becomes this one, and due.
+    /// The control word becomes this one, and due.
     pub fn set_control(&mut self, word: u32)
         ensures { self.new ≡ with_control word self.old }
     {
@@ -220,7 +204,7 @@ impl Switch {
         self.mark.note(Change::Changed);
     }
 
-    // The switch told its flags; with InitRequest every item becomes due.
+    /// The switch told its flags; with InitRequest among them every item becomes due.
     pub fn tell_state(&mut self, flags: u32)
         ensures { self.new ≡ with_state flags self.old }
     {
@@ -230,21 +214,21 @@ impl Switch {
         }
     }
 
-    // A key was pressed for an actor.
+    /// A key was pressed for an actor.
     pub fn press_key(&mut self, actor: u16, key: u8)
         ensures { self.new ≡ with_key actor key self.old }
     {
         self.report.key = Some(KeyPress { actor, key });
     }
 
-    // The switch told its reading.
+    /// The switch told its reading, in tenths of a degree, or that it has none.
     pub fn tell_reading(&mut self, reading: Option<i16>)
         ensures { self.new ≡ with_reading reading self.old }
     {
         self.report.reading = reading;
     }
 
-    // The awaited answer came: what was under way is settled, and nothing is awaited.
+    /// The awaited answer came: what was under way is settled, and nothing is awaited.
     pub fn answer(&mut self)
         ensures { self.new ≡ answered self.old }
     {
@@ -252,7 +236,7 @@ impl Switch {
         self.numbers.awaited = None;
     }
 
-    // A packet was composed: what was due is under way, its answer is awaited, and its slip is open.
+    /// A packet was composed: what was due is under way, its answer is awaited, and its slip is open.
     pub fn compose(&mut self)
         ensures { self.new ≡ composed self.old }
     {
@@ -265,14 +249,14 @@ impl Switch {
         };
     }
 
-    // The packet was sent.
+    /// The packet was sent: its slip is closed.
     pub fn close_slip(&mut self)
         ensures { self.new ≡ closed_slip self.old }
     {
         self.numbers.slip = None;
     }
 
-    // The packet was withheld: what was under way is due again, and nothing is awaited.
+    /// The packet was withheld: its slip is closed, what was under way is due again, and nothing is awaited.
     pub fn bring_back(&mut self)
         ensures { self.new ≡ brought_back self.old }
     {
