@@ -61,7 +61,7 @@ fn check_messages(switch: &Switch, payload: &[u8]) -> Result<Survey, Fault>
 }
 
 // How many messages of an answer are understood: every one must read, and which actors they name is not looked at.
-// By a cursor and not by `Packet::read`, whose calls go as deep as there are messages.
+// By a cursor, since calls of `Packet::read` go as deep as there are messages.
 fn count_messages(payload: &[u8]) -> Result<usize, Fault>
     requires { length payload.now ≤ 1472 }
     ensures { result ≡ count_of (messages_from payload.now 16) }
@@ -112,7 +112,7 @@ impl<S: ActorStore> Hub<S> {
         }
     }
 
-    // The applying pass, over a payload whose messages all read: two calls ask for that and pass it on, so that a type of its own for it would be no plainer.
+    // The applying pass, over a payload whose messages all read.
     fn hear_all(&mut self, id: u16, payload: &[u8])
         requires { is_ok (messages_from payload.now 16) ≡ true }
         ensures { hub_model S.meaning self.new ≡ heard_all id (messages_from payload.now 16) (hub_model S.meaning self.old) }
@@ -141,8 +141,13 @@ impl<S: ActorStore> Hub<S> {
         Ok((Arrival::Event, survey.understood))
     }
 
-    // Takes a payload from a switch: all of it, or nothing. Of answers only the awaited one settles what is under way,
-    // and no value that one repeats is stored.
+    /// Takes a payload from a switch, and tells what it was and how many of its messages are understood. An event is applied
+    /// whole, in message order. Of answers only the awaited one settles what is under way, and no value that one repeats is
+    /// stored.
+    ///
+    /// Refusals, in this order: 1 to 4 for the descriptor, 5, at place 8, for another project, 6, at place 12, for a switch
+    /// that is not enrolled, 7 to 9 for the first message that does not read, and for an event 10 at the first message for an
+    /// actor that the switch does not list. A refused payload changes nothing.
     pub fn take(&mut self, payload: &[u8]) -> Result<(Arrival, usize), Fault>
         ensures answer { result ≡ answer_of (take_payload (hub_model S.meaning self.old) payload.now) }
         ensures after { hub_model S.meaning self.new ≡ hub_after (hub_model S.meaning self.old) (take_payload (hub_model S.meaning self.old) payload.now) }

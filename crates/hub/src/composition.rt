@@ -20,7 +20,7 @@ const ACTOR_BYTES: usize = 12;
 
 const CONTROL_BYTES: usize = 8;
 
-// A packet that lies in the caller's buffer: its length, how many actors it carries, and the slip it is owed.
+/// A packet that lies in the caller's buffer: its length in bytes, how many actors it carries, and the slip that it is owed.
 pub struct Composed {
     pub length: usize,
     pub actors: usize,
@@ -81,7 +81,11 @@ impl<S: ActorStore> Hub<S> {
         })
     }
 
-    // Composes the packet with all that is outstanding for a switch. The slip is handed in once the packet was sent or withheld.
+    /// Composes the packet with all that is outstanding for a switch into a buffer, whose bytes beyond it stay. What it
+    /// carries goes under way, its answer is awaited, and its slip is to be handed in.
+    ///
+    /// Refusals, at place 0 and with nothing changed, in this order: 6 for a switch that is not enrolled, 18 while its slip is
+    /// open, 19 where nothing is outstanding, 20 for a buffer that is too short.
     pub fn compose(&mut self, id: u16, buf: &mut [u8]) -> Result<Composed, Fault>
         ensures answer { result ≡ composition id (compose_step (hub_model S.meaning self.old) id buf.old) }
         ensures after { hub_model S.meaning self.new ≡ hub_after (hub_model S.meaning self.old) (compose_step (hub_model S.meaning self.old) id buf.old) }

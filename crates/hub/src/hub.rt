@@ -75,7 +75,7 @@ fn change_at<F: FnOnce(&mut Switch)>(switches: &mut [Switch], id: u16, change: F
 }
 
 impl<S: ActorStore> Hub<S> {
-    /// Opens a hub with no switch over a store, whose values it keeps.
+    /// Opens a hub with no switch over a store, whose values stay.
     ///
     /// Refuses with 4, at place 0, a site whose major version is not 2, and hands the store back.
     pub fn open(store: S, site: Site) -> Result<Hub<S>, (Fault, S)>

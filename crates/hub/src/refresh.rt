@@ -1,6 +1,5 @@
 // Writing a packet for a switch: its outstanding actors in list order, and last its control word.
-// A draft and its buffer are passed at each call, and `HasRoom` says what a call needs of the two: a struct of both, moved from call
-// to call, would need a starred clause in each to say that its buffer is still the caller's.
+// A draft and its buffer are passed at each call, and `HasRoom` says what a call needs of the two.
 ghost use Rattle.std.specs.Prelude.{◌≡◌, ◌+◌, ◌*◌, ◌≤◌, true, false, [], ◌∷◌, ◌++◌, length, drop, IsOk, if◌then◌else◌, FitsSigned, ◌==◌};
 ghost use Rattle.std.specs.Int.{w16};
 ghost use Rattle.packet.specs.declared.message.Record.TheVariants.{Control};
@@ -18,8 +17,7 @@ use packet::{Descriptor, Draft, Record};
 use store::ActorStore;
 use switch::Switch;
 
-// Adds a record for which there is room. Inlined, so that its kind is known where it is written.
-#[inline(always)]
+// Adds a record for which there is room.
 fn add(draft: Draft, buf: &mut [u8], record: Record) -> Draft
     requires granted { IsOk (added «record» draft buf.old) }
     requires fits { RecordFits «record» }

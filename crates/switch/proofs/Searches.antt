@@ -1,17 +1,13 @@
--- The rules' own searches are the library's.
+-- The model's searches are the library's.
 use Rattle.std.proofs.Common.{◌≡◌, ℕ, suc, true, false, cond, ◌||◌, List, [], ◌∷◌, Some, length, filter, refl, ap, ◌==◌}
 use Rattle.std.specs.List.{find, list_any}
 use Rattle.std.specs.Option.{option_map}
 use Rattle.std.proofs.lemmas.List.Recursion.{same_from_clauses}
-use Rattle.store.specs.Lists.{lists}
 use Rattle.model.specs.declared.item.Item.{Item}
 use Rattle.model.specs.declared.mark.Mark.{Mark}
 use Rattle.model.specs.Composing.{outstanding_actors}
 use Rattle.model.specs.Marks.{is_outstanding}
 use Rattle.model.specs.Models.{SwitchModel, any_outstanding, find_switch, is_actor, lists_actor, mark_of_actor}
-
-pub stands : (a : ℕ) (list : List ℕ) → list_any (λ x. x == a) list ≡ lists list a
-stands a = same_from_clauses (list_any (λ x. x == a)) (λ list. lists list a) (λ x b. x == a || b) refl (λ _ _. refl) (λ _ _. refl)
 
 pub listed : (a : ℕ) (items : List Item) → list_any (is_actor a) items ≡ lists_actor a items
 listed a = same_from_clauses (list_any (is_actor a)) (lists_actor a) (λ x b. is_actor a x || b) refl (λ _ _. refl) (λ _ _. refl)

@@ -5,7 +5,7 @@ ghost use Rattle.switch.specs.Items.{actors_of, repeats};
 
 use model::{Change, Item};
 
-// Moves every item. A loop, since after `for_each` a proof knows nothing of what was written.
+// Moves every item.
 pub(crate) fn move_all(items: &mut [Item], change: Change)
     ensures { items.new ≡ map (moved_item change) items.old }
 {

@@ -5,14 +5,14 @@ ghost use Rattle.model.specs.Models.{find_switch, touched};
 
 use crate::switch::Switch;
 
-// The switch with this ID.
+/// The first switch with this SwitchID.
 pub fn find(switches: &[Switch], id: u16) -> Option<&Switch>
     ensures { option_map (λ s. s.now) result ≡ find_switch id switches.now }
 {
     switches.iter().find(|switch| switch.id() == id)
 }
 
-// An actor becomes due at every switch that lists it.
+/// An actor becomes due at every switch that lists it; the others stay as they are.
 // Not inlined: within a caller its loops would share the registers with all that the caller keeps.
 #[inline(never)]
 pub fn touch_all(switches: &mut [Switch], actor: u16)

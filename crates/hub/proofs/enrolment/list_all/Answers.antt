@@ -37,8 +37,7 @@ loop-i-preserved g c =
     let inv = c.loop-i.invariant in
     let yes : may_list a (map due_item (take i xs)) ≡ true = sym (ap (λ (s : SwitchModel). may_list a s.items) inv.1) ∙ sym c.list.ensures.answer ∙ c.if-not-list.false in
     let found = known m a c.read.result false c.read.ensures (sym c.is_err.ensures.value ∙ c.if-is_err.false) in
-    let may : may_list a c.loop-i.switch.items ≡ true = sym c.list.ensures.answer ∙ c.if-not-list.false in
-    (
+    let may : may_list a c.loop-i.switch.items ≡ true = sym c.list.ensures.answer ∙ c.if-not-list.false in (
       next m xs i inv.0 c.loop-i-test.true c.requires.few yes found,
       c.list.ensures.after ∙ cond-true _ _ _ may ∙ ap (listing a) inv.1 ∙ listed m xs i inv.0 c.loop-i-test.true c.requires.few c.args.id,
     )
