@@ -2,6 +2,7 @@
 #![tactic(auto)]
 
 mod items;
+mod questions;
 mod row;
 mod switch;
 

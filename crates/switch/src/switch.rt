@@ -1,10 +1,10 @@
-// An enrolled switch as the hub keeps it, in fixed memory: how one begins, what it can be asked, and what can happen to it alone.
-ghost use Rattle.std.specs.Prelude.{◌≡◌, ◌≤◌, true, false, [], length, if◌then◌else◌, ◌==◌};
-ghost use Rattle.model.specs.Composing.{brought_back, closed_slip, composed, has_outstanding, number_after, outstanding_actors};
-ghost use Rattle.model.specs.Models.{all_moved, lists_actor, mark_of_actor, touched, with_control};
+// An enrolled switch as the hub keeps it, in fixed memory: how one begins, and what can happen to it alone.
+ghost use Rattle.std.specs.Prelude.{◌≡◌, false, [], if◌then◌else◌, ◌==◌};
+ghost use Rattle.model.specs.Composing.{brought_back, closed_slip, composed, number_after};
+ghost use Rattle.model.specs.Models.{all_moved, touched, with_control};
 ghost use Rattle.model.specs.Opening.{new_switch};
 ghost use Rattle.model.specs.Taking.{answered, with_key, with_reading, with_state};
-ghost use Rattle.switch.specs.Items.{all_named, listing, may_list};
+ghost use Rattle.switch.specs.Items.{listing, may_list};
 
 use crate::items;
 use arrayvec::ArrayVec;
@@ -21,12 +21,12 @@ const FIRST_CONTROL: u32 = 0x0000_0130;
 // A clause sees it as a `SwitchModel`.
 #[derive(Clone, Drop)]
 pub struct Switch {
-    id: u16,
-    items: ArrayVec<Item, MOST_ACTORS>,
-    control: u32,
-    mark: Mark,
-    numbers: Numbers,
-    report: Report,
+    pub(crate) id: u16,
+    pub(crate) items: ArrayVec<Item, MOST_ACTORS>,
+    pub(crate) control: u32,
+    pub(crate) mark: Mark,
+    pub(crate) numbers: Numbers,
+    pub(crate) report: Report,
 }
 
 // Every item names an actor, no two the same one, and no packet has number 0, which marks an event.
@@ -96,91 +96,6 @@ impl Switch {
         true
     }
 
-    /// The SwitchID.
-    pub fn id(&self) -> u16
-        ensures { result ≡ self.now.id }
-    {
-        self.id
-    }
-
-    /// The items, in list order.
-    pub fn items(&self) -> &[Item]
-        ensures items { result.now ≡ self.now.items }
-        ensures named { all_named result.now ≡ true }
-        ensures few { length result.now ≤ 64 }
-    {
-        self.items.as_slice()
-    }
-
-    /// Whether the switch lists an actor.
-    pub fn lists(&self, actor: u16) -> bool
-        ensures { result ≡ lists_actor actor self.now.items }
-    {
-        self.items.iter().any(|item| item.actor == actor)
-    }
-
-    /// The mark of an actor, if the switch lists it.
-    pub fn mark_of(&self, actor: u16) -> Option<Mark>
-        ensures { result ≡ mark_of_actor actor self.now.items }
-    {
-        let found = self.items.iter().find(|item| item.actor == actor);
-        found.map(|item| item.mark)
-    }
-
-    /// The control word.
-    pub fn control(&self) -> u32
-        ensures { result ≡ self.now.control }
-    {
-        self.control
-    }
-
-    /// The mark of the control word.
-    pub fn control_mark(&self) -> Mark
-        ensures { result ≡ self.now.mark }
-    {
-        self.mark
-    }
-
-    /// What the switch last reported: its flags, its latest key, and its reading in tenths of a degree.
-    pub fn report(&self) -> Report
-        ensures { result ≡ self.now.report }
-    {
-        self.report
-    }
-
-    /// The package numbers: of the next packet, of the awaited answer, and of the open slip.
-    pub fn numbers(&self) -> Numbers
-        ensures { result ≡ self.now.numbers }
-    {
-        self.numbers
-    }
-
-    /// The number of the next packet, which is never 0.
-    pub fn next_number(&self) -> u16
-        ensures number { result ≡ self.now.numbers.next }
-        ensures never_zero { (result == 0) ≡ false }
-    {
-        self.numbers.next
-    }
-
-    /// How many actors are outstanding.
-    pub fn outstanding_actors(&self) -> usize
-        ensures answer { result ≡ outstanding_actors self.now.items }
-        ensures few { result ≤ 64 }
-    {
-        self.items
-            .iter()
-            .filter(|item| item.mark.is_outstanding())
-            .count()
-    }
-
-    /// Whether an actor or the control word is outstanding: due, or under way.
-    pub fn has_outstanding(&self) -> bool
-        ensures { result ≡ has_outstanding self.now }
-    {
-        items::any_outstanding(self.items.as_slice()) || self.mark.is_outstanding()
-    }
-
     /// An actor becomes due, where the switch lists it; else all stays as it was.
     pub fn touch(&mut self, actor: u16)
         ensures { self.new ≡ touched actor self.old }
@@ -236,12 +151,20 @@ impl Switch {
         self.numbers.awaited = None;
     }
 
+    /// The number of the next packet, which is never 0.
+    pub fn next_number(&self) -> u16
+        ensures number { result ≡ self.now.numbers.next }
+        ensures never_zero { (result == 0) ≡ false }
+    {
+        self.numbers.next
+    }
+
     /// A packet was composed: what was due is under way, its answer is awaited, and its slip is open.
     pub fn compose(&mut self)
         ensures { self.new ≡ composed self.old }
     {
         self.move_all(Change::Composed);
-        let number = self.numbers.next;
+        let number = self.next_number();
         self.numbers = Numbers {
             next: number_after(number),
             awaited: Some(number),
