@@ -1,4 +1,4 @@
-use Rattle.std.proofs.Common.{◌≡◌, ◌≤◌, length}
+use Rattle.std.proofs.Common.{◌≡◌}
 use Rattle.switch.proofs.Touches.{Unmet}
 use Rattle.switch.proofs.items.touch.Given as goal
 

@@ -1,5 +1,4 @@
 use Rattle.std.proofs.Common.{◌≡◌, false, eqb, sym, ap, subst, ◌∙◌, rules, tests}
-use Rattle.model.specs.declared.item.Item.{Item}
 use Rattle.model.specs.Models.{SwitchModel, lists_actor}
 use Rattle.model.specs.Opening.{due_item}
 use Rattle.switch.specs.Items.{LawfulItems}
