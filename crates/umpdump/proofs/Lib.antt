@@ -1,1 +1,2 @@
+mod Columns
 mod Wholes

@@ -1,10 +1,10 @@
 // A temperature in degrees, from the tenths that a switch sends.
-ghost use Rattle.std.specs.Prelude.{◌≡◌, ◌+◌, ◌*◌, ◌<◌, ◌++◌, Some, codes, decimal};
-ghost use Rattle.umpdump.specs.Shown.{is_below, signed, sign_of};
+ghost use Rattle.std.specs.Prelude.{◌≡◌, ◌+◌, ◌*◌, ◌<◌, Some};
+ghost use Rattle.umpdump.specs.Degrees.{degrees_of, degrees_text, is_below, signed};
 
 use std::fmt;
 
-// A sign, whole degrees and one digit after the point.
+/// A temperature: whether it is below zero, its whole degrees, and one digit after the point.
 #[derive(Clone, Copy, PartialEq, Eq, Debug)]
 pub struct Degrees {
     below: bool,
@@ -13,8 +13,9 @@ pub struct Degrees {
 }
 
 impl Degrees {
-    // No `From<i16>`, which would not name the unit.
+    /// The temperature of so many tenths of a degree.
     pub fn of_tenths(tenths: i16) -> Degrees
+        ensures answer { result ≡ degrees_of tenths }
         ensures value { tenths ≡ signed result.below (result.whole * 10 + result.tenth) }
         ensures sign { result.below ≡ is_below tenths }
         ensures digit { result.tenth < 10 }
@@ -28,9 +29,9 @@ impl Degrees {
     }
 }
 
-// The sign is written apart, since -0.2 has no whole degrees to bear it.
+// The sign stands apart, since -0.2 has no whole degrees to bear it.
 impl fmt::Display for Degrees {
-    ghost output = { λ d. Some (sign_of d.below ++ (decimal d.whole ++ (codes "." ++ decimal d.tenth))) };
+    ghost output = { λ degrees. Some (degrees_text degrees) };
 
     fn fmt<W: fmt::Write>(&self, f: &mut fmt::Formatter<W>) -> fmt::Result {
         let sign = if self.below { "-" } else { "" };

@@ -29,8 +29,8 @@ fn show_messages(rt: &impl Print, payload: &[u8]) -> io::Result<()>
     Ok(())
 }
 
-// Reads a line's payload into the buffer, which has room for the longest, and checks all of it: its length and what is known of it. The buffer is the
-// caller's, so its length goes beside it.
+// Reads a line's payload into the buffer, which has room for the longest, and checks all of it: its length, and what
+// is known of it.
 fn accept(line: &[u8], buf: &mut [u8]) -> Result<(usize, Packet), Fault>
     requires room { length buf.old ≡ 1472 }
     ensures answer { result ≡ accepted_of (decode_tells line.now 1472) buf.new }

@@ -1,12 +1,12 @@
 // One message on one row: its offset, its kind, its actor and what it says, in columns.
-ghost use Rattle.std.specs.Prelude.{◌≡◌};
-ghost use Rattle.umpdump.specs.Shown.{actor_of, name_of};
+ghost use Rattle.std.specs.Prelude.{◌≡◌, Some};
+ghost use Rattle.umpdump.specs.Shown.{actor_of, actor_text, message_text, name_of, row_text, value_text};
 
 use crate::degrees::Degrees;
+use hexadecimal::Digits;
 use packet::{Message, Record};
 use std::fmt;
 
-// A text: a `Display` for `packet`'s type would need a wrapper here, and `pad` for the column.
 fn kind_name(record: Record) -> &'static str
     ensures { result.now ≡ name_of «record» }
 {
@@ -37,14 +37,23 @@ fn actor_of(record: Record) -> Option<u16>
 struct Value(Record);
 
 impl fmt::Display for Value {
+    ghost output = { λ value. Some (value_text value.0) };
+
     fn fmt<W: fmt::Write>(&self, f: &mut fmt::Formatter<W>) -> fmt::Result {
         match self.0 {
-            Record::State(flags) if kind::asks_init(flags) => write!(
-                f,
-                "flags {flags:08X}  InitRequest"
-            ),
-            Record::State(flags) => write!(f, "flags {flags:08X}"),
-            Record::Control(flags) => write!(f, "flags {flags:08X}"),
+            Record::State(flags) => {
+                let bytes = flags.to_be_bytes();
+                let asks = if kind::asks_init(flags) {
+                    "  InitRequest"
+                } else {
+                    ""
+                };
+                write!(f, "flags {}{asks}", Digits(&bytes))
+            }
+            Record::Control(flags) => {
+                let bytes = flags.to_be_bytes();
+                write!(f, "flags {}", Digits(&bytes))
+            }
             Record::EditValue { target, .. } => write!(f, "target {target}"),
             Record::RealValue { actual, .. } => write!(f, "actual {actual}"),
             Record::Event { key, .. } => write!(f, "key {key}"),
@@ -57,7 +66,44 @@ impl fmt::Display for Value {
     }
 }
 
-// A message and the offset of its first byte in the payload.
+// The actor that a message concerns, in a column.
+#[derive(Clone, Copy, PartialEq, Eq, Debug)]
+struct Actor(Option<u16>);
+
+impl fmt::Display for Actor {
+    ghost output = { λ actor. Some (actor_text actor.0) };
+
+    #[tactic(auto, using(crate::proofs::Columns::number_left))]
+    fn fmt<W: fmt::Write>(&self, f: &mut fmt::Formatter<W>) -> fmt::Result {
+        match self.0 {
+            Some(actor) => write!(f, "actor {actor:<5}"),
+            None => write!(f, "no actor   "),
+        }
+    }
+}
+
+// What follows the offset of a message.
+#[derive(Clone, Copy, PartialEq, Eq, Debug)]
+struct Columns(Message);
+
+impl fmt::Display for Columns {
+    ghost output = { λ columns. Some (message_text columns.0) };
+
+    #[tactic(auto, using(crate::proofs::Columns::name_left))]
+    fn fmt<W: fmt::Write>(&self, f: &mut fmt::Formatter<W>) -> fmt::Result {
+        match self.0 {
+            Message::Unknown(id) => write!(f, "passed over (ID 0x{})", Digits(&[id])),
+            Message::Known(record) => {
+                let kind = kind_name(record);
+                let actor = Actor(actor_of(record));
+                let value = Value(record);
+                write!(f, "{kind:<11}  {actor}  {value}")
+            }
+        }
+    }
+}
+
+/// A message and the offset of its first byte in the payload. It writes itself as one row, with no line feed behind it.
 #[derive(Clone, Copy, PartialEq, Eq, Debug)]
 pub struct Row {
     pub offset: usize,
@@ -65,20 +111,12 @@ pub struct Row {
 }
 
 impl fmt::Display for Row {
+    ghost output = { λ row. Some (row_text row) };
+
+    #[tactic(auto, using(crate::proofs::Columns::number_right))]
     fn fmt<W: fmt::Write>(&self, f: &mut fmt::Formatter<W>) -> fmt::Result {
         let offset = self.offset;
-        match self.message {
-            Message::Unknown(id) => write!(f, "  {offset:>4}  passed over (ID 0x{id:02X})"),
-            Message::Known(record) => {
-                let kind = kind_name(record);
-                let value = Value(record);
-                match actor_of(record) {
-                    Some(actor) => {
-                        write!(f, "  {offset:>4}  {kind:<11}  actor {actor:<5}  {value}")
-                    }
-                    None => write!(f, "  {offset:>4}  {kind:<11}  no actor     {value}"),
-                }
-            }
-        }
+        let columns = Columns(self.message);
+        write!(f, "  {offset:>4}  {columns}")
     }
 }
