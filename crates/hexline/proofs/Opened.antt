@@ -1,5 +1,5 @@
 -- The calls that open the house are not refused, and what they leave.
-use Rattle.std.proofs.Common.{◌≡◌, ℕ, List, [], ◌∷◌, Ok, Err, Result, sym, refl, ap, ◌∙◌, rules}
+use Rattle.std.proofs.Common.{◌≡◌, [], ◌∷◌, Ok, Err, Result, sym, ap, ◌∙◌, rules}
 use Rattle.std.specs.Result.{IsOk}
 use Rattle.fault.specs.declared.Fault.{Fault}
 use Rattle.packet.proofs.Spelling.{same_answer}

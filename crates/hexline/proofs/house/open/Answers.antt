@@ -1,7 +1,6 @@
-use Rattle.std.proofs.Common.{◌≡◌}
 use Rattle.store.specs.Tables.{actors_in}
 use Rattle.hub.specs.Memory.{hub_model}
-use Rattle.hexline.proofs.Opened.{half, opens, first_done, first_leaves, second_done, second_leaves}
+use Rattle.hexline.proofs.Opened.{opens, first_done, first_leaves, second_done, second_leaves}
 use Rattle.hexline.proofs.house.open.Goals as goal
 
 pub unwrap-requires-2 : goal.unwrap-requires-2
