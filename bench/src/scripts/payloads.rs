@@ -1,4 +1,4 @@
-//! Payloads of every kind: lawful ones, and ones that are damaged in each way that the rules speak of.
+//! Payloads of every kind: lawful ones, and ones that are damaged in each way that the hub refuses.
 
 use crate::random::Random;
 
