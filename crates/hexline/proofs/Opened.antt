@@ -3,14 +3,13 @@ use Rattle.std.proofs.Common.{◌≡◌, [], ◌∷◌, Ok, Err, Result, sym, ap
 use Rattle.std.specs.Result.{IsOk}
 use Rattle.fault.specs.declared.Fault.{Fault}
 use Rattle.packet.proofs.Spelling.{same_answer}
-use Rattle.store.specs.declared.actor_store.ActorStore.{Ghosts}
 use Rattle.store.specs.declared.table.Table.{Table}
 use Rattle.store.specs.Lists.{table_over, zeros}
 use Rattle.store.specs.Meaning.{meant}
 use Rattle.store.specs.Tables.{actors_in}
 use Rattle.model.specs.Models.{HubModel, answer_of, hub_after}
 use Rattle.model.specs.Opening.{enrol, new_hub, new_switch, opened}
-use Rattle.hub.specs.declared.memory.Hub.{Hub}
+use Rattle.hub.specs.declared.hub.Hub.{Hub}
 use Rattle.hub.specs.Memory.{handed_back, hub_model, seen}
 use Rattle.hexline.specs.House.{house, site}
 
@@ -24,11 +23,11 @@ half = record { site = site; switches = new_switch 7 (1 ∷ 2 ∷ []) ∷ []; st
 table_means : (r : Result Table Fault) (t : Table) → r ≡ Ok t → meant actors_in r ≡ table_over (1 ∷ 2 ∷ []) → actors_in t ≡ zeros (1 ∷ 2 ∷ [])
 table_means r t is e = same_answer (actors_in t) (zeros (1 ∷ 2 ∷ [])) (ap (meant actors_in) (sym is) ∙ e)
 
-hub_means : {store : Ghosts Table} → (r : Result (Hub Table store) (Fault × Table)) (h : Hub Table store) (t : Table) → r ≡ Ok h → seen actors_in r ≡ handed_back t (opened site (actors_in t)) → hub_model actors_in h ≡ new_hub site (actors_in t)
+hub_means : (r : Result (Hub Table) (Fault × Table)) (h : Hub Table) (t : Table) → r ≡ Ok h → seen actors_in r ≡ handed_back t (opened site (actors_in t)) → hub_model actors_in h ≡ new_hub site (actors_in t)
 hub_means r h t is e = same_answer (hub_model actors_in h) (new_hub site (actors_in t)) (ap (seen actors_in) (sym is) ∙ e)
 
-pub opens : {store : Ghosts Table} → (a : Result Table Fault) (t : Table) → a ≡ Ok t → meant actors_in a ≡ table_over (1 ∷ 2 ∷ [])
-    → (b : Result (Hub Table store) (Fault × Table)) (h : Hub Table store) → b ≡ Ok h → seen actors_in b ≡ handed_back t (opened site (actors_in t)) → hub_model actors_in h ≡ empty
+pub opens : (a : Result Table Fault) (t : Table) → a ≡ Ok t → meant actors_in a ≡ table_over (1 ∷ 2 ∷ [])
+    → (b : Result (Hub Table) (Fault × Table)) (h : Hub Table) → b ≡ Ok h → seen actors_in b ≡ handed_back t (opened site (actors_in t)) → hub_model actors_in h ≡ empty
 opens a t is e b h was f = hub_means b h t was f ∙ ap (new_hub site) (table_means a t is e)
 
 done : (r : Result Unit Fault) → r ≡ Ok tt → IsOk r
