@@ -22,7 +22,7 @@ pub enum Verb {
 }
 
 impl Verb {
-    // The call of that name. No `TryFrom`, whose error type would say nothing.
+    // The call of that name.
     pub(crate) fn named(name: &[u8]) -> Option<Verb>
         ensures { result ≡ verb_of name.now }
     {
