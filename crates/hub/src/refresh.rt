@@ -17,7 +17,8 @@ use packet::{Descriptor, Draft, Record};
 use store::ActorStore;
 use switch::Switch;
 
-// Adds a record for which there is room.
+// Adds a record for which there is room. Inlined, so that its kind is known where it is written.
+#[inline(always)]
 fn add(draft: Draft, buf: &mut [u8], record: Record) -> Draft
     requires granted { IsOk (added «record» draft buf.old) }
     requires fits { RecordFits «record» }
