@@ -44,6 +44,8 @@ pub trait Kind {
 /// Reads the message that begins `bytes` as one of kind K: its actor and its record, or `None` where it has another MessageID.
 /// `bytes` is what is left of a payload, from `place` on, and each refusal is told at that place: 7 where no whole message begins there, 8 where the message
 /// has the kind's MessageID and another MessageLength, 9 where the kind does not admit its actor.
+// Inlined, so that a reader of all kinds looks at the head of a message once.
+#[inline(always)]
 pub fn read<K: Kind>(bytes: &[u8], place: usize) -> Result<Option<(u16, K::Record)>, Fault>
     ensures answer { result ≡ read_of K.layout bytes.now place }
     ensures whole { OnOk result (Whole bytes.now) }
