@@ -10,7 +10,7 @@ use fault::Fault;
 use std::marker::Model;
 
 /// A place in a payload: at the first byte of a message, or at the end.
-#[derive(Debug, Drop)]
+#[derive(Clone, Debug, Drop)]
 pub struct Cursor<'a> {
     payload: &'a [u8],
     place: usize,
