@@ -1,4 +1,5 @@
 pub mod Fronts
+pub mod Places
 pub mod Pairs
 pub mod Table
 pub mod Spelling

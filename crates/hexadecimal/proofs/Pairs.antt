@@ -27,7 +27,7 @@ length_digits_of [] = refl
 length_digits_of (b ∷ s) = let ih = length_digits_of s in omega arith
 
 -- one more byte, two more digits
-digits_append : (s t : List ℕ) → digits_of (s ++ t) ≡ digits_of s ++ digits_of t
+pub digits_append : (s t : List ℕ) → digits_of (s ++ t) ≡ digits_of s ++ digits_of t
 unfolding digits_of
 digits_append [] t = refl
 digits_append (b ∷ s) t = ap (λ ds. digit_for (b / 16) ∷ digit_for (b % 16) ∷ ds) (digits_append s t)

@@ -1,14 +1,25 @@
--- The digits of bytes, as they are printed one byte at a time.
-use Rattle.std.proofs.Common.{◌≡◌, ℕ, ◌+◌, ◌/◌, ◌%◌, ◌-◌, ◌^◌, ◌<◌, false, true, List, [], ◌∷◌, ◌++◌, length, get_or, take, sym, ap, ◌∙◌, ap₂, arith}
-use Rattle.std.specs.Fmt.{digits, format_spec, padded_integral}
-use Rattle.std.proofs.lemmas.Fmt.{hex_byte}
-use Rattle.hexadecimal.specs.Digit.{digit_for}
+-- The digits of bytes are text, and one chunk's digits after another's are those of the whole.
+use Rattle.std.proofs.Common.{◌≡◌, ℕ, zero, suc, ◌*◌, ◌/◌, ◌%◌, ◌<◌, List, [], ◌∷◌, ◌++◌, length, get_or, take, sym, ap, ◌∙◌, arith, append_assoc}
+use Rattle.std.specs.Str.{IsAscii, IsUtf8}
+use Rattle.std.proofs.lemmas.List.{take_at}
+use Rattle.std.proofs.lemmas.Str.{IsUtf8-from_ascii}
 use Rattle.hexadecimal.specs.Encoding.{digits_of}
-use Rattle.hexadecimal.proofs.Pairs.{digits_more}
-use Rattle.hexadecimal.proofs.Table.{glyph_written}
+use Rattle.hexadecimal.proofs.Pairs.{length_digits_of, digits_append}
+use Rattle.hexadecimal.proofs.Table.{written_ascii}
 
-byte_shown : (b : ℕ) → b < 256 → padded_integral (format_spec 32 0 4 2 (2 ^ 64 - 1)) false [] (digits 16 true b) ≡ digit_for (b / 16) ∷ digit_for (b % 16) ∷ []
-byte_shown b h = hex_byte true b h ∙ ap₂ (λ (x y : ℕ). x ∷ y ∷ []) (glyph_written (b / 16) (omega arith)) (glyph_written (b % 16) (omega arith))
+digits_ascii : (s : List ℕ) → ((i : ℕ) → get_or s i 0 < 256) → IsAscii (digits_of s)
+unfolding digits_of
+digits_ascii [] small i = omega arith
+digits_ascii (b ∷ s) small zero = let fits = small 0 in written_ascii (b / 16) (omega arith)
+digits_ascii (b ∷ s) small (suc zero) = written_ascii (b % 16) (omega arith)
+digits_ascii (b ∷ s) small (suc (suc i)) = digits_ascii s (λ j. small (suc j)) i
 
-pub shown_more : (s : List ℕ) (i : ℕ) → i < length s → get_or s i 0 < 256 → digits_of (take i s) ++ padded_integral (format_spec 32 0 4 2 (2 ^ 64 - 1)) false [] (digits 16 true (get_or s i 0)) ≡ digits_of (take (i + 1) s)
-shown_more s i h fits = ap (λ t. digits_of (take i s) ++ t) (byte_shown (get_or s i 0) fits) ∙ sym (digits_more s i h)
+pub digits_text : (s : List ℕ) → ((i : ℕ) → get_or s i 0 < 256) → IsUtf8 (digits_of s)
+digits_text s small = IsUtf8-from_ascii (digits_of s) (digits_ascii s small)
+
+pub digits_front : (s rest out : List ℕ) → out ≡ digits_of s ++ rest → take (2 * length s) out ≡ digits_of s
+digits_front s rest out e = ap (take (2 * length s)) e ∙ take_at (digits_of s) rest (2 * length s) (length_digits_of s)
+
+-- the digits of what is left begin with those of its first chunk
+pub shown_more : (done all chunk rest : List ℕ) → all ≡ chunk ++ rest → (done ++ digits_of chunk) ++ digits_of rest ≡ done ++ digits_of all
+shown_more done all chunk rest e = append_assoc done (digits_of chunk) (digits_of rest) ∙ ap (λ t. done ++ t) (sym (digits_append chunk rest) ∙ ap digits_of (sym e))

@@ -2,7 +2,6 @@
 use Rattle.std.proofs.Common.{◌≡◌, ℕ, zero, suc, ◌<◌, Bool, true, not, ◌&&◌, ◌||◌, eqb, ltb, ◌⊎◌, List, get_or, sym, refl, ap, ◌∙◌, inl, inr, arith}
 use Rattle.std.proofs.lemmas.Bool.{and_parts, or_cases, ltb-true, eqb-true, not-true, both_ways}
 use Rattle.std.proofs.lemmas.Bool.Decides.{Decides-below_and, nat_tests}
-use Rattle.std.specs.Fmt.{digit_glyph}
 use Rattle.hexadecimal.specs.Digit.{is_digit, value_of, digit_for, capitals, smalls, StandsFor}
 
 abbrev every : (ℕ → Bool) → ℕ → Bool
@@ -45,6 +44,6 @@ digit_stands c t = stands_by c t (or_cases _ _ (every_at placed 103 refl c (digi
 pub written_stands : (v : ℕ) → v < 16 → StandsFor (digit_for v) v
 written_stands v h = (h, inl refl)
 
--- the library writes a half as the same digit
-pub glyph_written : (v : ℕ) → v < 16 → digit_glyph true v ≡ digit_for v
-glyph_written v h = eqb-true _ _ (every_at (λ k. eqb (digit_glyph true k) (digit_for k)) 16 refl v h)
+-- and is ASCII
+pub written_ascii : (v : ℕ) → v < 16 → digit_for v < 128
+written_ascii v h = ltb-true _ _ (every_at (λ k. ltb (digit_for k) 128) 16 refl v h)

@@ -5,10 +5,13 @@ ghost use Rattle.hexadecimal.specs.Encoding.{ReadsBack, digits_of, encode_leaves
 
 use crate::digit::{joined, parted};
 use fault::{CallFault, Fault};
-use std::fmt;
+use std::{fmt, str};
 
 // Two digits for each byte of the longest payload.
 const LONGEST: usize = 2944;
+
+// How many bytes are written as one text: a write costs a formatter far more than two digits do.
+const CHUNK: usize = 32;
 
 // How many digits the line begins with.
 fn digits_ahead(line: &[u8]) -> usize
@@ -101,6 +104,15 @@ pub fn encode(bytes: &[u8], out: &mut [u8]) -> Result<usize, Fault>
     Ok(2 * bytes.len())
 }
 
+// The digits of the bytes, as a text at the front of the room.
+fn text_in<'a>(bytes: &[u8], room: &'a mut [u8]) -> &'a str
+    requires { 2 * length bytes.now ≤ length room.old }
+    ensures { result.now ≡ digits_of bytes.now }
+{
+    spell(bytes, room);
+    str::from_utf8(&room[..2 * bytes.len()]).unwrap()
+}
+
 /// Bytes that write themselves as upper-case digits, two for each.
 #[derive(Clone, Copy, PartialEq, Eq, Debug)]
 pub struct Digits<'a>(pub &'a [u8]);
@@ -109,8 +121,9 @@ impl fmt::Display for Digits<'_> {
     ghost output = { λ digits. Some (digits_of digits.0.now) };
 
     fn fmt<W: fmt::Write>(&self, f: &mut fmt::Formatter<W>) -> fmt::Result {
-        for &byte in self.0 {
-            write!(f, "{byte:02X}")?;
+        let mut room = [0; 2 * CHUNK];
+        for bytes in self.0.chunks(CHUNK) {
+            f.write_str(text_in(bytes, &mut room))?;
         }
         Ok(())
     }
