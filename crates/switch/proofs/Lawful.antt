@@ -1,9 +1,6 @@
 -- Items that name actors, each one of its own, through every change of their marks.
-use Rattle.std.proofs.Common.{◌≡◌, ℕ, Bool, true, false, cond, not, ◌&&◌, eqb, List, [], ◌∷◌, ◌++◌, map, length, refl, sym, ap, ◌∙◌, ap₂, subst, arith}
-use Rattle.std.proofs.lemmas.List.{length-map}
+use Rattle.std.proofs.Common.{◌≡◌, ℕ, Bool, true, false, cond, not, ◌&&◌, eqb, List, [], ◌∷◌, ◌++◌, map, refl, ap, ◌∙◌, ap₂, arith}
 use Rattle.std.proofs.lemmas.Bool.{and_from, and_parts, not_from_false, or_from, or_parts}
-use Rattle.arrayvec.proofs.ArrayVecLemmas.{items-with_items}
-use Rattle.arrayvec.specs.ArrayVec.{ArrayVec, with_items}
 use Rattle.model.specs.declared.item.Item.{Item}
 use Rattle.model.specs.Models.{is_actor, lists_actor, moved_item, touched_item}
 use Rattle.model.specs.declared.mark.Change.TheVariants.{Changed}
@@ -18,13 +15,8 @@ actors_map : (f : Item → Item) → ((x : Item) → (f x).actor ≡ x.actor) �
 actors_map f keeps [] = refl
 actors_map f keeps (x ∷ xs) = ap₂ (λ (a : ℕ) (l : List ℕ). a ∷ l) (keeps x) (actors_map f keeps xs)
 
-lawful_map : (f : Item → Item) → ((x : Item) → (f x).actor ≡ x.actor) → (xs : List Item) → LawfulItems xs → LawfulItems (map f xs)
+pub lawful_map : (f : Item → Item) → ((x : Item) → (f x).actor ≡ x.actor) → (xs : List Item) → LawfulItems xs → LawfulItems (map f xs)
 lawful_map f keeps xs h = record { named = named_map f keeps xs ∙ h.named; distinct = ap repeats (actors_map f keeps xs) ∙ h.distinct }
-
--- the same of a list that was lent, changed in place and handed back
-pub kept_lawful : (f : Item → Item) → ((x : Item) → (f x).actor ≡ x.actor) → (v : ArrayVec Item) (xs : List Item) → xs ≡ map f v.items → LawfulItems v.items → LawfulItems (with_items v xs).items
-kept_lawful f keeps v xs e h =
-    subst LawfulItems (sym (items-with_items v xs (ap length e ∙ length-map v.items f) ∙ e)) (lawful_map f keeps v.items h)
 
 pub touched_actor : (a : ℕ) (x : Item) → (touched_item a x).actor ≡ x.actor
 touched_actor a x = ways (is_actor a x)

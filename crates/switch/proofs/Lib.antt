@@ -3,3 +3,4 @@ pub mod Changes
 pub mod Lawful
 pub mod Firsts
 pub mod Touches
+pub mod Rooms

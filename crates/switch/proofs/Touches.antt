@@ -4,14 +4,10 @@ use Rattle.std.proofs.lemmas.Bool.{cond-false, cond-true, eq-eqb, ne_eqb, or_par
 use Rattle.model.specs.declared.item.Item.{Item}
 use Rattle.model.specs.declared.mark.Change.TheVariants.{Changed}
 use Rattle.model.specs.declared.mark.Mark.{Mark}
-use Rattle.model.specs.declared.mark.Mark.TheVariants.{Settled}
 use Rattle.model.specs.Marks.{moved}
 use Rattle.model.specs.Models.{is_actor, moved_item, touched_item}
 use Rattle.store.specs.Lists.{lists}
-use Rattle.switch.specs.Items.{actors_of, repeats}
-
-abbrev pub no_item : Item
-no_item = record { actor = 0; mark = Settled }
+use Rattle.switch.specs.Items.{actors_of, no_item, repeats}
 
 -- no item before this place is the actor's
 abbrev pub Unmet : ℕ → List Item → ℕ → Type 0

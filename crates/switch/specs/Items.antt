@@ -1,7 +1,8 @@
--- What is true of every switch: each of its items names an actor, no two the same one, and its next package number is not 0.
-use Rattle.std.specs.Prelude.{◌≡◌, ℕ, Bool, true, false, not, ◌&&◌, ◌||◌, List, [], ◌∷◌, ◌++◌, map, length, ◌==◌, nat_le}
+-- What is true of every switch: each of its items names an actor, no two the same one, its room for items is blank behind these, and its next package number is not 0.
+use Rattle.std.specs.Prelude.{◌≡◌, ℕ, Bool, true, false, not, ◌&&◌, ◌||◌, ◌-◌, ◌≤◌, List, [], ◌∷◌, ◌++◌, map, length, drop, replicate, ◌==◌, nat_le}
 use Rattle.store.specs.Lists.{lists}
 use Rattle.model.specs.declared.item.Item.{Item}
+use Rattle.model.specs.declared.mark.Mark.TheVariants.{Settled}
 use Rattle.model.specs.Models.{SwitchModel, lists_actor}
 use Rattle.model.specs.Opening.{due_item}
 
@@ -26,6 +27,20 @@ pub record LawfulItems (items : List Item) : Type 0 where
 pub record LawfulSwitch (items : List Item) (next : ℕ) : Type 0 where
   pub listed : LawfulItems items
   pub numbered : (next == 0) ≡ false
+
+-- what stands where a list holds none yet
+abbrev pub no_item : Item
+no_item = record { actor = 0; mark = Settled }
+
+-- a list in the room that a switch has for it
+abbrev pub filled_up : List Item → List Item
+filled_up xs = xs ++ replicate (64 - length xs) no_item
+
+-- what is true of the items of a switch behind the first `count`, which it lists
+pub record Room (items : List Item) (count : ℕ) : Type 0 where
+  pub long : length items ≡ 64
+  pub few : count ≤ 64
+  pub blank : drop count items ≡ replicate (64 - count) no_item
 
 -- an actor that a switch with these items has room for and does not list yet
 abbrev pub may_list : ℕ → List Item → Bool

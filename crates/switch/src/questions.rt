@@ -22,21 +22,24 @@ impl Switch {
         ensures named { all_named result.now ≡ true }
         ensures few { length result.now ≤ 64 }
     {
-        self.items.as_slice()
+        &self.items[..self.count]
     }
 
     /// Whether the switch lists an actor.
     pub fn lists(&self, actor: u16) -> bool
         ensures { result ≡ lists_actor actor self.now.items }
     {
-        self.items.iter().any(|item| item.actor == actor)
+        let listed = &self.items[..self.count];
+        listed.iter().any(|item| item.actor == actor)
     }
 
     /// The mark of an actor, if the switch lists it.
     pub fn mark_of(&self, actor: u16) -> Option<Mark>
         ensures { result ≡ mark_of_actor actor self.now.items }
     {
-        let found = self.items.iter().find(|item| item.actor == actor);
+        let found = self.items[..self.count]
+            .iter()
+            .find(|item| item.actor == actor);
         found.map(|item| item.mark)
     }
 
@@ -73,7 +76,7 @@ impl Switch {
         ensures answer { result ≡ outstanding_actors self.now.items }
         ensures few { result ≤ 64 }
     {
-        self.items
+        self.items[..self.count]
             .iter()
             .filter(|item| item.mark.is_outstanding())
             .count()
@@ -83,6 +86,6 @@ impl Switch {
     pub fn has_outstanding(&self) -> bool
         ensures { result ≡ has_outstanding self.now }
     {
-        items::any_outstanding(self.items.as_slice()) || self.mark.is_outstanding()
+        items::any_outstanding(&self.items[..self.count]) || self.mark.is_outstanding()
     }
 }

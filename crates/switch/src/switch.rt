@@ -7,7 +7,6 @@ ghost use Rattle.model.specs.Taking.{answered, with_key, with_reading, with_stat
 ghost use Rattle.switch.specs.Items.{listing, may_list};
 
 use crate::items;
-use arrayvec::ArrayVec;
 use model::{Change, Item, KeyPress, Mark, Numbers, Report};
 use std::marker::Model;
 
@@ -18,27 +17,43 @@ pub const MOST_ACTORS: usize = 64;
 const FIRST_CONTROL: u32 = 0x0000_0130;
 
 /// A switch in memory: its list of actors with their marks, its control word, its package numbers, and what it last reported.
-// A clause sees it as a `SwitchModel`.
-#[derive(Clone, Drop)]
+// A clause sees it as a `SwitchModel`. The first `count` items are in use.
+#[derive(Clone, Copy)]
 pub struct Switch {
     pub(crate) id: u16,
-    pub(crate) items: ArrayVec<Item, MOST_ACTORS>,
+    pub(crate) items: [Item; MOST_ACTORS],
+    pub(crate) count: usize,
     pub(crate) control: u32,
     pub(crate) mark: Mark,
     pub(crate) numbers: Numbers,
     pub(crate) report: Report,
 }
 
-// Every item names an actor, no two the same one, and no packet has number 0, which marks an event.
+// Every item names an actor, no two the same one, and no packet has number 0, which marks an event. The room behind the list is blank,
+// so that what a clause sees tells every field, as it has to for a type that is copied.
 impl Model for Switch {
+    ghost use Rattle.std.specs.Prelude.{length, take};
     ghost use Rattle.model.specs.Models.{SwitchModel};
-    ghost use Rattle.switch.specs.Items.{LawfulSwitch};
+    ghost use Rattle.switch.specs.Items.{LawfulSwitch, Room, filled_up};
+    ghost use Rattle.switch.specs.Rooms.{length_in_use, whole};
 
     ghost Value = { SwitchModel };
 
-    ghost view = { λ s. record { id = s.id; items = s.items.items; control = s.control; mark = s.mark; numbers = s.numbers; report = s.report } };
+    ghost view = { λ s. record { id = s.id; items = take s.count s.items; control = s.control; mark = s.mark; numbers = s.numbers; report = s.report } };
 
-    ghost invariant = { λ s. LawfulSwitch s.items.items s.numbers.next };
+    ghost invariant = { λ s. LawfulSwitch (take s.count s.items) s.numbers.next × Room s.items s.count };
+
+    ghost inverse = { λ m. record { id = m.id; items = filled_up m.items; count = length m.items; control = m.control; mark = m.mark; numbers = m.numbers; report = m.report } };
+
+    ghost inverse_ok = { λ s h i. record {
+      id = s.id;
+      items = whole s.items s.count h.1 i;
+      count = length_in_use s.items s.count h.1 i;
+      control = s.control;
+      mark = s.mark;
+      numbers = s.numbers;
+      report = s.report;
+    } };
 }
 
 // A switch that lists nothing, for the room that no switch has taken yet. By hand: a derived one would have control word 0 and nothing due.
@@ -64,7 +79,8 @@ impl Switch {
     {
         Switch {
             id,
-            items: ArrayVec::new(),
+            items: [Item::default(); MOST_ACTORS],
+            count: 0,
             control: FIRST_CONTROL,
             mark: Mark::Due,
             numbers: Numbers {
@@ -86,13 +102,14 @@ impl Switch {
         ensures answer { result ≡ may_list actor self.old.items }
         ensures after { self.new ≡ (if may_list actor self.old.items then listing actor self.old else self.old) }
     {
-        if actor == 0 || self.items.is_full() || self.lists(actor) {
+        if actor == 0 || self.count == MOST_ACTORS || self.lists(actor) {
             return false;
         }
-        self.items.push(Item {
+        self.items[self.count] = Item {
             actor,
             mark: Mark::Due,
-        });
+        };
+        self.count += 1;
         true
     }
 
@@ -100,14 +117,14 @@ impl Switch {
     pub fn touch(&mut self, actor: u16)
         ensures { self.new ≡ touched actor self.old }
     {
-        items::touch(self.items.as_mut_slice(), actor);
+        items::touch(&mut self.items[..self.count], actor);
     }
 
     // Every item moves, the control word too.
     fn move_all(&mut self, change: Change)
         ensures { self.new ≡ all_moved change self.old }
     {
-        items::move_all(self.items.as_mut_slice(), change);
+        items::move_all(&mut self.items[..self.count], change);
         self.mark.note(change);
     }
 

@@ -1,8 +1,19 @@
-use Rattle.std.proofs.Common.{map, ap, ◌∙◌}
-use Rattle.model.specs.Models.{touched_item}
-use Rattle.switch.proofs.Lawful.{kept_lawful, touched_actor}
+use Rattle.std.proofs.Common.{List, ap, ◌∙◌}
+use Rattle.model.specs.declared.item.Item.{Item}
+use Rattle.model.specs.Models.{touched, touched_item, with_marks}
+use Rattle.switch.specs.contracts.switch.Switch.{the_view}
+use Rattle.switch.proofs.Lawful.{touched_actor}
+use Rattle.switch.proofs.Rooms.{front_mapped, kept_lawful}
 use Rattle.switch.proofs.switch.Switch.touch.Goals as goal
 
 pub invariant_of-self : goal.invariant_of-self
 invariant_of-self c =
-    record { listed = kept_lawful (touched_item c.args.actor) (touched_actor c.args.actor) _ _ (c.touch.ensures ∙ ap (map (touched_item c.args.actor)) c.as_mut_slice.ensures.value) c.self.invariant.listed; numbered = c.self.invariant.numbered }
+    let s = c.self.inside in
+    kept_lawful _ s.items c.touch.new.items s.count c.self.invariant.1 c.touch.ensures (touched_actor _) s.numbers.next c.self.invariant.0
+
+pub returns : goal.returns
+returns c =
+    let s = c.self.inside in
+    let a = c.args.actor in
+    ap (λ (l : List Item). with_marks l s.mark (the_view s)) (front_mapped (touched_item a) s.items c.touch.new.items s.count c.self.invariant.1 c.touch.ensures)
+    ∙ ap (touched a) c.self.view_is
