@@ -1,9 +1,7 @@
 -- A list of actors, listed entry by entry.
-use Rattle.std.proofs.Common.{◌≡◌, ℕ, suc, ◌+◌, ◌<◌, ◌≤◌, Bool, true, false, cond, not, ◌||◌, eqb, List, [], ◌∷◌, ◌++◌, map, length, get_or, take, drop, ℤ, is_some, is_err, Some, None, Option, Result, sym, refl, ap, ◌∙◌, ap₂, subst, arith, drop-cons}
+use Rattle.std.proofs.Common.{◌≡◌, ℕ, suc, ◌+◌, ◌<◌, ◌≤◌, Bool, true, false, cond, not, ◌||◌, eqb, List, [], ◌∷◌, map, length, get_or, take, drop, is_some, Some, None, sym, refl, ap, ◌∙◌, ap₂, subst, arith, drop-cons}
 use Rattle.std.proofs.lemmas.List.{at_drop_all, length-map, length-take-le, map-append, take_more}
 use Rattle.std.proofs.lemmas.Bool.{cond-false, cond-true, lt-leb, not-false, not-true}
-use Rattle.std.specs.Option.{ok_or}
-use Rattle.fault.specs.declared.Fault.{Fault}
 use Rattle.fault.specs.declared.Fault.TheVariants.{Store}
 use Rattle.fault.specs.declared.StoreFault.TheVariants.{ListEntry, UnknownActor}
 use Rattle.model.specs.declared.item.Item.{Item}
@@ -11,7 +9,7 @@ use Rattle.model.specs.declared.mark.Mark.TheVariants.{Due}
 use Rattle.model.specs.Models.{lists_actor, with_marks}
 use Rattle.model.specs.Opening.{due_item, entry_fault, new_switch}
 use Rattle.store.specs.Lists.{lists}
-use Rattle.store.specs.Meaning.{Known, read_answer, unknown_actor}
+use Rattle.store.specs.Meaning.{Known}
 use Rattle.switch.specs.Items.{listing, may_list}
 
 listed_due : (a : ℕ) (ys : List ℕ) → lists_actor a (map due_item ys) ≡ lists ys a
@@ -22,14 +20,6 @@ listed_due a (y ∷ ys) = ap (λ (t : Bool). eqb y a || t) (listed_due a ys)
 may_list_new : (a : ℕ) (ys : List ℕ) → length ys < 64 → may_list a (map due_item ys) ≡ not (eqb a 0 || lists ys a)
 may_list_new a ys l =
     ap₂ (λ (s t : Bool). not (eqb a 0 || (s || t))) (lt-leb 64 (length (map due_item ys)) (subst (λ (n : ℕ). n < 64) (sym (length-map ys due_item)) l)) (listed_due a ys)
-
--- a store that does not tell an actor's values does not know it
-pub known : (m : Known) (a : ℕ) (r : Result (ℤ × ℤ) Fault) (t : Bool) → r ≡ read_answer m a → is_err r ≡ t → is_some (m a) ≡ not t
-known m a r t e h = go (m a) (ap is_err (sym e) ∙ h)
-  where
-    go : (o : Option (ℤ × ℤ)) → is_err (ok_or o unknown_actor) ≡ t → is_some o ≡ not t
-    go (Some v) q = ap not q
-    go None q = ap not q
 
 one_more : (n : ℕ) → suc n ≡ n + 1
 one_more n = omega arith

@@ -4,4 +4,5 @@ pub mod Written
 pub mod Compositions
 pub mod Owed
 pub mod Kept
+pub mod Refused
 pub mod Changes

@@ -10,6 +10,12 @@ use fault::{CallFault, Fault, StoreFault};
 use store::ActorStore;
 use switch::{MOST_ACTORS, Switch};
 
+fn is_known<S: ActorStore>(store: &S, actor: u16) -> bool
+    ensures { result ≡ is_some (S.meaning store.now actor) }
+{
+    store.read(actor).is_ok()
+}
+
 // A switch with this list, entry by entry: each stands there once, and is known to the store.
 fn list_all<S: ActorStore>(store: &S, id: u16, actors: &[u16]) -> Result<Switch, Fault>
     requires few { length actors.now ≤ 64 }
@@ -21,7 +27,7 @@ fn list_all<S: ActorStore>(store: &S, id: u16, actors: &[u16]) -> Result<Switch,
         if !switch.list(actor) {
             return Err(Fault::Store(StoreFault::ListEntry, i));
         }
-        if store.read(actor).is_err() {
+        if !is_known(store, actor) {
             return Err(Fault::Store(StoreFault::UnknownActor, i));
         }
     }
