@@ -108,6 +108,9 @@ fn counts(rt: HostRuntime) -> Result<(), Fail> {
     // none of these does anything
     assert_eq!(rt; marks(&hub, 7, [1, 2])?, [Mark::Settled; 3]);
     assert_eq!(rt; marks(&hub, 8, [2, 3])?, [Mark::Settled; 3]);
+    // nothing was ever sent to this switch 8, so it owes no answer
+    let stale = (answer(1, &EDIT)?, Ok((Arrival::Stale, 1)));
+    all_told(&rt, &mut house()?, &[stale]);
     Ok(())
 }
 

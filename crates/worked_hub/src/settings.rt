@@ -47,7 +47,7 @@ fn values(rt: HostRuntime) -> Result<(), Fail> {
     assert_eq!(rt; hub.set_actual(2, 32_767), Err(forbidden));
     assert_eq!(rt; hub.set_target(2, -32_768), Err(forbidden));
     // actor 4 is known, but no switch lists it
-    assert_eq!(rt; hub.set_actual(4, 1), Ok(()));
+    assert_eq!(rt; hub.set_actual(4, -32_767), Ok(()));
     assert_eq!(rt; marks(&hub, 7, [1, 2])?, [Mark::Settled; 3]);
     assert_eq!(rt; marks(&hub, 8, [2, 3])?, [Mark::Settled; 3]);
     assert_eq!(rt; hub.set_actual(1, -32_767), Ok(()));

@@ -54,10 +54,11 @@ fn lawful_blocks(rt: HostRuntime) -> Result<(), Fail> {
 #[test]
 fn unlawful_blocks(rt: HostRuntime) {
     let small = block_of(1, 156);
-    let unlawful: [(&[u8], &str); 9] = [
+    let unlawful: [(&[u8], &str); 10] = [
         (&[], "no byte"),
         (&small[0..155], "a byte less"),
         (&small[0..157], "a byte more"),
+        (&small[0..576], "one page in the room of 16"),
         (&block_of(1, 157)[0..156], "another FrameLength"),
         (&with_word(small, 0, 0x7601)[0..156], "another FrameID"),
         (&block_of(0, 128)[0..128], "no page"),
