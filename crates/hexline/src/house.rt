@@ -1,6 +1,6 @@
 // The hub that the program opens, and what a text makes of it.
-ghost use Rattle.std.specs.Prelude.{◌≡◌, IfOk};
-ghost use Rattle.std.specs.String.{string_bytes};
+ghost use Rattle.std.specs.Prelude.{◌≡◌, OnOk};
+ghost use Rattle.std.specs.Io.KnownBytes.{Appends};
 ghost use Rattle.store.specs.Tables.{actors_in};
 ghost use Rattle.hub.specs.Memory.{hub_model};
 ghost use Rattle.hexline.specs.House.{house, report_on};
@@ -9,7 +9,8 @@ use crate::dispatch::tell;
 use crate::line::hear_all;
 use hub::Hub;
 use model::Site;
-use std::alloc::{AllocError, Global};
+use std::io;
+use std::io::Write;
 use store::Table;
 
 const SITE: Site = Site {
@@ -29,15 +30,13 @@ pub fn open() -> Hub<Table>
     hub
 }
 
-/// What the program prints for a text: what each of its lines is answered with, in order, and then what switch 7 and
-/// switch 8 are told.
-pub fn play(alloc: Global, text: &[u8]) -> Result<String, AllocError>
-    ensures { IfOk result (λ report. string_bytes report ≡ report_on text.now) }
+/// Writes what the program prints for a text: what each of its lines is answered with, in order and as it is heard, and
+/// then what switch 7 and switch 8 are told.
+pub fn play<W: Write>(text: &[u8], out: &mut W) -> io::Result<()>
+    ensures { OnOk result (Appends (W.contents out.old) (W.contents out.new) (report_on text.now)) }
 {
-    let mut report = String::new(alloc);
     let mut hub = open();
-    hear_all(&mut hub, text, &mut report)?;
-    tell(&mut hub, 7, &mut report)?;
-    tell(&mut hub, 8, &mut report)?;
-    Ok(report)
+    hear_all(&mut hub, text, out)?;
+    tell(&mut hub, 7, out)?;
+    tell(&mut hub, 8, out)
 }

@@ -1,6 +1,6 @@
 // A line of text, heard by the hub as the payload that it spells.
-ghost use Rattle.std.specs.Prelude.{◌≡◌, ◌++◌, OnOk, Some};
-ghost use Rattle.std.specs.String.{string_bytes};
+ghost use Rattle.std.specs.Prelude.{◌≡◌, OnOk, Some};
+ghost use Rattle.std.specs.Io.KnownBytes.{Appends};
 ghost use Rattle.hexadecimal.specs.Lines.{lines_of};
 ghost use Rattle.hub.specs.Memory.{hub_model};
 ghost use Rattle.model.specs.Models.{answer_of, hub_after};
@@ -11,8 +11,8 @@ use hexadecimal::Lines;
 use hub::Hub;
 use model::Arrival;
 use packet::PAYLOAD_MOST;
-use std::alloc::AllocError;
-use std::fmt;
+use std::io::Write;
+use std::{fmt, io};
 use store::ActorStore;
 
 /// What a line is answered with: what its payload was and how many of its messages were understood, or why it was
@@ -42,18 +42,19 @@ pub fn hear<S: ActorStore>(hub: &mut Hub<S>, line: &[u8]) -> Result<(Arrival, us
     hub.take(&payload[..length])
 }
 
-/// Gives every line of a text to the hub, in order, and writes what each is answered with on a line of its own.
-pub fn hear_all<S: ActorStore>(
+/// Gives every line of a text to the hub, in order, and writes what each is answered with, on a line of its own, before
+/// the next is heard.
+pub fn hear_all<S: ActorStore, W: Write>(
     hub: &mut Hub<S>,
     text: &[u8],
-    report: &mut String,
-) -> Result<(), AllocError>
-    ensures told { OnOk result (string_bytes report.new ≡ string_bytes report.old ++ heard_lines (hub_model S.meaning hub.old) (lines_of text.now)) }
+    out: &mut W,
+) -> io::Result<()>
+    ensures told { OnOk result (Appends (W.contents out.old) (W.contents out.new) (heard_lines (hub_model S.meaning hub.old) (lines_of text.now))) }
     ensures after { OnOk result (hub_model S.meaning hub.new ≡ after_lines (hub_model S.meaning hub.old) (lines_of text.now)) }
 {
     for line in Lines::new(text) {
         let heard = Heard(hear(hub, line));
-        writeln!(report, "{heard}")?;
+        writeln!(out, "{heard}")?;
     }
     Ok(())
 }

@@ -9,11 +9,12 @@ mod line;
 mod tests;
 
 use std::io;
-use std::io::Read;
+use std::io::{BufWriter, Read, Write};
 
 fn main(rt: HostRuntime) -> io::Result<()> {
     let mut text = Vec::new(rt.alloc());
     rt.stdin().read_to_end(&mut text)?;
-    let report = house::play(rt.alloc(), text.as_slice())?;
-    print!(rt; "{report}")
+    let mut out = BufWriter::new(rt.alloc(), io::writer(&rt))?;
+    house::play(text.as_slice(), &mut out)?;
+    out.flush()
 }

@@ -67,12 +67,12 @@ fn answers_and_refusals(rt: HostRuntime) -> Result<(), Fail> {
     ];
     let mut hub = open();
     for (turn, wanted) in turns {
-        let mut report = String::new(rt.alloc());
+        let mut out = Vec::new(rt.alloc());
         match turn {
-            Line(text) => hear_all(&mut hub, text.as_bytes(), &mut report)?,
-            Tell(switch) => tell(&mut hub, switch, &mut report)?,
+            Line(text) => hear_all(&mut hub, text.as_bytes(), &mut out)?,
+            Tell(switch) => tell(&mut hub, switch, &mut out)?,
         }
-        assert_eq!(rt; report.as_str(), wanted);
+        assert_eq!(rt; out.as_slice(), wanted.as_bytes());
     }
     Ok(())
 }
@@ -112,8 +112,9 @@ fn whole_texts(rt: HostRuntime) -> Result<(), Fail> {
         ),
     ];
     for (text, wanted) in texts {
-        let report = play(rt.alloc(), text.as_bytes())?;
-        assert_eq!(rt; report.as_str(), wanted);
+        let mut out = Vec::new(rt.alloc());
+        play(text.as_bytes(), &mut out)?;
+        assert_eq!(rt; out.as_slice(), wanted.as_bytes());
     }
     Ok(())
 }
