@@ -71,7 +71,8 @@ fn two_before(text: &[u8], places: (Place, Place)) -> Result<(u16, u16, &[u8]), 
     }
 }
 
-// The words of a site, and the store behind them.
+// The words of a site, and the store behind them. A call of its own, as `enrol` is: a list of actors has room for 257.
+#[inline(never)]
 fn open(text: &[u8]) -> Result<Call<'_>, Reason<'_>>
     ensures { made said (read_as result) ≡ open_in text.now }
 {
@@ -85,6 +86,15 @@ fn open(text: &[u8]) -> Result<Call<'_>, Reason<'_>>
         design,
     };
     Ok(Call::Open { site, store })
+}
+
+// The switch that is to be enrolled, and its list.
+#[inline(never)]
+fn enrol(text: &[u8]) -> Result<Call<'_>, Reason<'_>>
+    ensures { made said (read_as result) ≡ call_for Verb.Enrol text.now }
+{
+    let (switch, actors) = two(Verb::Enrol, text, (Place::Switch, Place::Actor))?;
+    Ok(Call::Enrol { switch, actors })
 }
 
 // The room for a packet. No longer buffer is of use than the longest packet.
@@ -110,10 +120,7 @@ fn behind(verb: Verb, rest: &[u8]) -> Result<Call<'_>, Reason<'_>>
 {
     let call = match verb {
         Verb::Open => open(rest)?,
-        Verb::Enrol => {
-            let (switch, actors) = two(verb, rest, (Place::Switch, Place::Actor))?;
-            Call::Enrol { switch, actors }
-        }
+        Verb::Enrol => enrol(rest)?,
         Verb::Actual => {
             let (actor, value) = two(verb, rest, (Place::Actor, Place::Value))?;
             Call::Actual { actor, value }

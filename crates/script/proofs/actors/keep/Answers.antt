@@ -1,13 +1,9 @@
-use Rattle.std.proofs.Common.{◌≡◌, ◌<◌, ◌∙◌, length, arith}
+use Rattle.std.proofs.Common.{arith}
 use Rattle.script.proofs.Entries.{added, left_out}
 use Rattle.script.proofs.actors.keep.Goals as goal
 
-pub returns-then-not-is_full : goal.returns-then-not-is_full
-returns-then-not-is_full c =
-    let few : length c.args.entries.now.items < 257 = grind arith in
-    c.push.ensures.items ∙ added c.args.entries.now.items c.args.actor few
+pub returns-then-list-lt257 : goal.returns-then-list-lt257
+returns-then-list-lt257 c = added c.args.list.now c.args.actor c.requires (omega arith)
 
-pub returns-else-not-is_full : goal.returns-else-not-is_full
-returns-else-not-is_full c =
-    let full : length c.args.entries.now.items ≡ 257 = grind arith in
-    left_out c.args.entries.now.items c.args.actor full
+pub returns-else-list-lt257 : goal.returns-else-list-lt257
+returns-else-list-lt257 c = left_out c.args.list.now c.args.actor c.requires (omega arith) (omega arith)
