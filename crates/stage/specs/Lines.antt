@@ -1,5 +1,5 @@
 -- Reading the lines of a script.
-use Rattle.std.specs.Prelude.{◌≡◌, ℕ, ◌<◌, Bool, true, false, List, [], length, Some, None, IfSome, Option}
+use Rattle.std.specs.Prelude.{◌≡◌, ℕ, ◌<◌, Bool, true, false, List, [], length, Some, IfSome, Option}
 use Rattle.hexadecimal.specs.Lines.{line_of, rest_of}
 
 -- the first line of a text, and what is left then; or that none is left

@@ -24,7 +24,7 @@ use Rattle.stage.specs.declared.outcome.Told.TheVariants as told
 
 -- switch, length, actors, number and bytes of a packet
 abbrev pub packet_text : Packet → List ℕ
-packet_text p = decimal p.switch ++ (codes " " ++ (decimal (length p.bytes.items) ++ (codes " " ++ (decimal p.actors ++ (codes " " ++ (decimal p.number ++ (codes " " ++ digits_of p.bytes.items)))))))
+packet_text p = decimal p.switch ++ (codes " " ++ (decimal (length p.payload) ++ (codes " " ++ (decimal p.actors ++ (codes " " ++ (decimal p.number ++ (codes " " ++ digits_of p.payload)))))))
 
 abbrev pub told_text : Told → List ℕ
 told_text told.Done = codes "ok"
@@ -74,7 +74,7 @@ taken h payload = answered (λ (p : Arrival × ℕ). told.Taken p.0 p.1) (answer
 -- what composing for a switch into a buffer tells: the packet, which is the front of the buffer then
 abbrev pub composed : HubModel → ℕ → List ℕ → Step Composition → Answer
 composed h s buf (Ok p) =
-    answer.Granted (told.Composed (record { switch = s; actors = p.0.actors; number = p.0.number; bytes = record { items = take p.0.size (composed_bytes h s buf) } }))
+    answer.Granted (told.Composed (record { switch = s; actors = p.0.actors; number = p.0.number; payload = take p.0.size (composed_bytes h s buf) }))
 composed h s buf (Err e) = answer.Refused e
 
 -- what a question is answered with, if the call is one
@@ -93,3 +93,9 @@ asks (call.take digits) h = None
 asks (call.compose s room) h = None
 asks (call.sent s n) h = None
 asks (call.withheld s n) h = None
+
+-- what is told of a question, where one was asked
+abbrev pub asked : Result (Option Told) Fault → Option Answer
+asked (Ok None) = None
+asked (Ok (Some t)) = Some (answer.Granted t)
+asked (Err e) = Some (answer.Refused e)

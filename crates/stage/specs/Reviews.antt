@@ -1,5 +1,5 @@
 -- Whether the outcomes of a script were those that it wants.
-use Rattle.std.specs.Prelude.{ℕ, Bool, true, false, not, ◌||◌, List, Some, None, Option, string_bytes}
+use Rattle.std.specs.Prelude.{ℕ, Bool, false, not, ◌||◌, List, Some, None, Option, string_bytes}
 use Rattle.std.specs.Option.{option_map}
 use Rattle.std.specs.Str.{bytes_eq}
 use Rattle.stage.specs.Outcomes.{is_mistake, outcome_text}

@@ -9,9 +9,8 @@ ghost use Rattle.stage.specs.Calls.{Composes, Leaves};
 ghost use Rattle.stage.specs.Slips.{HoldsAll, handed_for, handed_told, place_for};
 
 use crate::call::apply;
-use crate::outcome::{Answer, Packet, Told};
+use crate::outcome::{Answer, Packet, Payload, Told};
 use crate::slip::{keep, place};
-use arrayvec::ArrayVec;
 use hub::{Composed, Fate, Hub, Slip};
 use packet::PAYLOAD_MOST;
 use script::Call;
@@ -49,8 +48,7 @@ impl<S: ActorStore> Desk<S> {
     }
 
     // Composes into a buffer, and keeps the slip.
-    fn compose(&mut self, switch: u16, buf: &mut [u8]) -> Result<Answer, AllocError>
-        requires room { length buf.old ≤ 1472 }
+    fn compose<'b>(&mut self, switch: u16, buf: &'b mut [u8]) -> Result<Answer<'b>, AllocError>
         ensures { Composes (result_ok result) switch buf.old (hub_model S.meaning self.old.hub) (hub_model S.meaning self.new.hub) }
     {
         match self.hub.compose(switch, buf) {
@@ -62,13 +60,12 @@ impl<S: ActorStore> Desk<S> {
                 } = composed;
                 let number = slip.number();
                 keep(&mut self.hub, &mut self.held, slip)?;
-                let mut bytes = ArrayVec::new();
-                bytes.try_extend_from_slice(&buf[..length]).unwrap();
+                let payload = Payload::new(&buf[..length]);
                 Ok(Answer::Granted(Told::Composed(Packet {
                     switch,
                     actors,
                     number,
-                    bytes,
+                    payload,
                 })))
             }
             Err(fault) => Ok(Answer::Refused(fault)),
@@ -76,7 +73,7 @@ impl<S: ActorStore> Desk<S> {
     }
 
     // Hands in the slip for a packet, if it is at hand.
-    fn hand_in_for(&mut self, switch: u16, number: u16, fate: Fate) -> Answer
+    fn hand_in_for(&mut self, switch: u16, number: u16, fate: Fate) -> Answer<'static>
         ensures told { result ≡ handed_told (place_for switch number self.old.held.items) }
         ensures after { hub_model S.meaning self.new.hub ≡ handed_for fate (hub_model S.meaning self.old.hub) switch number (place_for switch number self.old.held.items) }
     {
@@ -90,13 +87,16 @@ impl<S: ActorStore> Desk<S> {
     }
 
     /// Makes a call, and tells what became of it. Where the machine has no memory for one more slip,
-    /// its packet is withheld, and nothing is told.
-    pub(crate) fn make(&mut self, call: Call<'_>) -> Result<Answer, AllocError>
-        ensures { Leaves (said call.entry) (result_ok result) self.old.held.items (hub_model S.meaning self.old.hub) (hub_model S.meaning self.new.hub) }
+    /// its packet is withheld, and nothing is told. A packet is composed into the buffer, whatever that held.
+    pub(crate) fn make<'b>(
+        &mut self,
+        call: &Call<'_>,
+        buf: &'b mut [u8; PAYLOAD_MOST],
+    ) -> Result<Answer<'b>, AllocError>
+        ensures { Leaves (said call.now) (result_ok result) self.old.held.items (hub_model S.meaning self.old.hub) (hub_model S.meaning self.new.hub) }
     {
-        match call {
+        match *call {
             Call::Compose { switch, room } => {
-                let mut buf = [0; PAYLOAD_MOST];
                 self.compose(switch, &mut buf[..room.min(PAYLOAD_MOST)])
             }
             Call::Sent { switch, number } => Ok(self.hand_in_for(switch, number, Fate::Sent)),

@@ -31,24 +31,27 @@ use std::process::ExitCode;
 use std::{env, io};
 use store::{ActorStore, Table};
 
-// Makes what a line says.
+// Makes what a line says. A packet is composed into the buffer.
 fn make<S: ActorStore>(
     rt: &impl Print,
     desk: &mut Desk<S>,
     review: &mut Review,
+    buf: &mut [u8; PAYLOAD_MOST],
     number: u64,
     line: &[u8],
 ) -> io::Result<()>
     ensures { OnOk result (Makes line.now (hub_model S.meaning desk.old.hub) (review_of review.old) (hub_model S.meaning desk.new.hub) (review_of review.new)) }
 {
-    match script::read(line) {
+    // by reference, since a call with a list of actors is large
+    let said = script::read(line);
+    match &said {
         Line::Passed => Ok(()),
         Line::Wanted(outcome) => review.want(rt, number, outcome),
         Line::Call(call) => {
-            let answer = desk.make(call)?;
+            let answer = desk.make(call, buf)?;
             review.tell(rt, &Outcome::Made(answer))
         }
-        Line::Unknown(reason) => review.tell(rt, &Outcome::Unknown(reason)),
+        Line::Unknown(reason) => review.tell(rt, &Outcome::Unknown(*reason)),
     }
 }
 
@@ -62,11 +65,12 @@ fn make_all<S: ActorStore, R: BufRead>(
     ensures { OnOk result (MakesScript (R.remaining script.old.reader) (hub_model S.meaning desk.old.hub) (review_of review.old) (hub_model S.meaning desk.new.hub) (review_of review.new)) }
 {
     let mut line = script.blank();
+    let mut buf = [0; PAYLOAD_MOST];
     for _ in 0..u64::MAX {
         if !script.read(rt, &mut line)? {
             return Ok(());
         }
-        make(rt, desk, review, script.number(), line.as_slice())?;
+        make(rt, desk, review, &mut buf, script.number(), line.as_slice())?;
     }
     Err(ErrorKind::FileTooLarge.into())
 }

@@ -2,49 +2,77 @@
 ghost use Rattle.std.specs.Prelude.{◌≡◌, Some};
 ghost use Rattle.stage.specs.Outcomes.{answer_text, is_mistake, outcome_text, packet_text, told_text};
 
-use arrayvec::ArrayVec;
 use fault::Fault;
 use hexadecimal::Digits;
 use model::{Arrival, KeyPress, Mark};
-use packet::PAYLOAD_MOST;
 use script::Reason;
 use std::fmt;
+use std::marker::Model;
+
+/// The bytes of a packet, in the buffer that it was composed into.
+#[derive(Drop)]
+pub(crate) struct Payload<'a> {
+    bytes: &'a [u8],
+}
+
+impl<'a> Model for Payload<'a> {
+    ghost use Rattle.std.specs.Prelude.{ℕ, List};
+
+    ghost Value = { List ℕ };
+
+    ghost view = { λ p. p.bytes.now };
+}
+
+impl<'a> Payload<'a> {
+    pub(crate) fn new(bytes: &'a [u8]) -> Payload<'a>
+        ensures { result ≡ bytes.now }
+    {
+        Payload { bytes }
+    }
+
+    fn bytes(&self) -> &[u8]
+        ensures { result.now ≡ self.now }
+    {
+        self.bytes
+    }
+}
 
 /// A packet that was composed, and how many actors it carries.
 #[derive(Drop)]
-pub(crate) struct Packet {
+pub(crate) struct Packet<'a> {
     pub(crate) switch: u16,
     pub(crate) actors: usize,
     pub(crate) number: u16,
-    pub(crate) bytes: ArrayVec<u8, PAYLOAD_MOST>,
+    pub(crate) payload: Payload<'a>,
 }
 
-impl fmt::Display for Packet {
+impl fmt::Display for Packet<'_> {
     ghost output = { λ packet. Some (packet_text packet) };
 
     fn fmt<W: fmt::Write>(&self, f: &mut fmt::Formatter<W>) -> fmt::Result {
+        let bytes = self.payload.bytes();
         let switch = self.switch;
-        let length = self.bytes.len();
+        let length = bytes.len();
         let actors = self.actors;
         let number = self.number;
-        let digits = Digits(self.bytes.as_slice());
+        let digits = Digits(bytes);
         write!(f, "{switch} {length} {actors} {number} {digits}")
     }
 }
 
 /// What a call that was granted told.
 #[derive(Drop)]
-pub(crate) enum Told {
+pub(crate) enum Told<'a> {
     Done,
     Taken(Arrival, usize),
-    Composed(Packet),
+    Composed(Packet<'a>),
     Mark(Mark),
     Flags(u32),
     Key(Option<KeyPress>),
     Reading(Option<i16>),
 }
 
-impl fmt::Display for Told {
+impl fmt::Display for Told<'_> {
     ghost output = { λ told. Some (told_text told) };
 
     fn fmt<W: fmt::Write>(&self, f: &mut fmt::Formatter<W>) -> fmt::Result {
@@ -63,14 +91,14 @@ impl fmt::Display for Told {
 
 /// What became of a call that was made on the hub.
 #[derive(Drop)]
-pub(crate) enum Answer {
-    Granted(Told),
+pub(crate) enum Answer<'a> {
+    Granted(Told<'a>),
     Refused(Fault),
     NoSlip,
     OpenAlready,
 }
 
-impl fmt::Display for Answer {
+impl fmt::Display for Answer<'_> {
     ghost output = { λ answer. Some (answer_text answer) };
 
     fn fmt<W: fmt::Write>(&self, f: &mut fmt::Formatter<W>) -> fmt::Result {
@@ -89,7 +117,7 @@ impl fmt::Display for Answer {
 /// What a line of a script is told.
 #[derive(Drop)]
 pub(crate) enum Outcome<'a> {
-    Made(Answer),
+    Made(Answer<'a>),
     /// A call before a hub was opened.
     Unready,
     /// What is wanted, with no call before it.

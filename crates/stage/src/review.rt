@@ -1,5 +1,5 @@
 // Whether the outcomes of a script were those that it wants.
-ghost use Rattle.std.specs.Prelude.{◌≡◌, OnOk};
+ghost use Rattle.std.specs.Prelude.{◌≡◌, OnOk, string_bytes};
 ghost use Rattle.stage.specs.Reviews.{ends_badly, review_of, told_now, wanted_now};
 
 use crate::outcome::Outcome;
@@ -18,6 +18,16 @@ pub(crate) struct Review {
     failed: bool,
 }
 
+// Writes a text and a line feed at once.
+fn print_line(rt: &impl Print, text: &mut String) -> io::Result<()>
+    ensures { OnOk result (string_bytes text.new ≡ string_bytes text.old) }
+{
+    text.push('\n')?;
+    let written = rt.write_all(text.as_bytes());
+    text.pop();
+    written
+}
+
 impl Review {
     pub(crate) fn new(heap: Global) -> Review {
         Review {
@@ -32,8 +42,11 @@ impl Review {
     pub(crate) fn tell(&mut self, rt: &impl Print, outcome: &Outcome<'_>) -> io::Result<()>
         ensures { OnOk result (review_of self.new ≡ told_now outcome.now (review_of self.old)) }
     {
-        let text = format!(in self.heap; "{outcome}")?;
-        rt.println(text.as_str())?;
+        // the room of the outcome before serves again
+        let mut text = self.told.take().unwrap_or(String::new(self.heap));
+        text.clear();
+        write!(text, "{outcome}")?;
+        print_line(rt, &mut text)?;
         self.failed |= self.mistaken;
         self.mistaken = outcome.is_mistake();
         self.told = Some(text);
