@@ -14,7 +14,7 @@ mod word;
 
 pub use actors::Actors;
 pub use call::{Call, Store};
-pub use line::{Line, read};
+pub use line::{COMMENT, Line, read};
 pub use place::Place;
 pub use reason::Reason;
 pub use text::Text;

@@ -8,7 +8,8 @@ use crate::call::{Call, parse};
 use crate::part::SPACE;
 use crate::reason::Reason;
 
-const COMMENT: u8 = b'#';
+/// What a line begins with that is passed over, whatever follows.
+pub const COMMENT: u8 = b'#';
 
 const CARRIAGE_RETURN: u8 = b'\r';
 

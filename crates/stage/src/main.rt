@@ -13,13 +13,15 @@ mod lines;
 mod outcome;
 mod review;
 mod slip;
+#[cfg(test)]
+mod tests;
 
 use arguments::command;
 use desk::Desk;
 use fault::Fault;
 use hub::Hub;
 use image::Image;
-use lines::Lines;
+use lines::{Lines, Next};
 use model::Site;
 use outcome::{Answer, Outcome, Told};
 use packet::PAYLOAD_MOST;
@@ -67,10 +69,11 @@ fn make_all<S: ActorStore, R: BufRead>(
     let mut line = script.blank();
     let mut buf = [0; PAYLOAD_MOST];
     for _ in 0..u64::MAX {
-        if !script.read(rt, &mut line)? {
-            return Ok(());
+        match script.next(rt, &mut line)? {
+            Next::Line => make(rt, desk, review, &mut buf, script.number(), line.as_slice())?,
+            Next::Passed => {}
+            Next::End => return Ok(()),
         }
-        make(rt, desk, review, &mut buf, script.number(), line.as_slice())?;
     }
     Err(ErrorKind::FileTooLarge.into())
 }
@@ -171,10 +174,14 @@ fn stage<R: BufRead>(
 ) -> io::Result<()> {
     let mut line = script.blank();
     for _ in 0..u64::MAX {
-        if !script.read(rt, &mut line)?
-            || begin(rt, line.as_slice(), review, script)? == Begun::Ran
-        {
-            return Ok(());
+        match script.next(rt, &mut line)? {
+            Next::Line => {
+                if begin(rt, line.as_slice(), review, script)? == Begun::Ran {
+                    return Ok(());
+                }
+            }
+            Next::Passed => {}
+            Next::End => return Ok(()),
         }
     }
     Err(ErrorKind::FileTooLarge.into())

@@ -1,28 +1,42 @@
-use Rattle.std.proofs.Common.{◌≡◌, ℕ, Bool, false, true, List, subst, rules}
+use Rattle.std.proofs.Common.{List, ℕ, subst}
 use Rattle.hub.specs.Memory.{hub_model}
 use Rattle.stage.specs.Calls.{Makes}
-use Rattle.stage.specs.Lines.{TakesLine}
+use Rattle.stage.specs.Lines.{TakesNext}
 use Rattle.stage.specs.Reviews.{review_of}
-use Rattle.stage.proofs.Reading.{all_made, more_made}
+use Rattle.stage.specs.declared.lines.Next.{Next}
+use Rattle.stage.proofs.Reading.{all_made, more_made, none_more}
+use Rattle.stage.proofs.make_all.Goals.{in-Line+in_ok-make-in-Line, in-Passed}
 use Rattle.stage.proofs.make_all.Goals as goal
 
-pub returns-then-not-branch : goal.returns-then-not-branch
-returns-then-not-branch g c =
+pub returns-in-End : goal.returns-in-End
+returns-in-End g c =
     let m = g.S.ActorStore.meaning in
     let known = g.R.Read.remaining in
-    let line = c.read.new.line.items in
-    let none : c.in_ok-read.field-0 ≡ false = search rules in
-    let there = subst (λ (b : Bool). TakesLine (known c.loop.script.reader) (known c.read.new.self.reader) b line) none c.in_ok-read.ensures in
-    all_made (known c.args.script.now.reader) (known c.loop.script.reader) (known c.read.new.self.reader) line (hub_model m c.args.desk.now.hub) (review_of c.args.review.now)
+    let line = c.next.new.line.items in
+    let there = subst (λ (n : Next). TakesNext (known c.loop.script.reader) (known c.next.new.self.reader) n line) c.in-End.is c.in_ok-next.ensures in
+    all_made (known c.args.script.now.reader) (known c.loop.script.reader) (known c.next.new.self.reader) line (hub_model m c.args.desk.now.hub) (review_of c.args.review.now)
     (hub_model m c.loop.desk.hub) (review_of c.loop.review) c.loop.invariant there
 
 pub loop-preserved : goal.loop-preserved
 loop-preserved g c =
     let m = g.S.ActorStore.meaning in
     let known = g.R.Read.remaining in
-    let line = c.read.new.line.items in
-    let one : c.in_ok-read.field-0 ≡ true = search rules in
-    let there = subst (λ (b : Bool). TakesLine (known c.loop.script.reader) (known c.read.new.self.reader) b line) one c.in_ok-read.ensures in
-    let made = subst (λ (t : List ℕ). Makes t (hub_model m c.loop.desk.hub) (review_of c.loop.review) (hub_model m c.make.new.desk.hub) (review_of c.make.new.review)) c.as_slice.ensures.value c.in_ok-make.ensures in
-    more_made (known c.args.script.now.reader) (known c.loop.script.reader) (known c.read.new.self.reader) line (hub_model m c.args.desk.now.hub) (review_of c.args.review.now)
-    (hub_model m c.loop.desk.hub) (review_of c.loop.review) (hub_model m c.make.new.desk.hub) (review_of c.make.new.review) c.loop.invariant there made
+    let first = known c.args.script.now.reader in
+    let old = known c.loop.script.reader in
+    let new = known c.next.new.self.reader in
+    let line = c.next.new.line.items in
+    let h = hub_model m c.args.desk.now.hub in
+    let r = review_of c.args.review.now in
+    let k = hub_model m c.loop.desk.hub in
+    let q = review_of c.loop.review in
+    elim c.match-branch-2.branch [
+      | in-Line+in_ok-make-in-Line w ↦
+          let there = subst (λ (n : Next). TakesNext old new n line) w.in-Line.is c.in_ok-next.ensures in
+          let after = hub_model m w.make.new.desk.hub in
+          let told = review_of w.make.new.review in
+          let made = subst (λ (t : List ℕ). Makes t k q after told) w.as_slice.ensures.value w.in_ok-make-in-Line.ensures in
+          rw (w.desk-is, w.review-is) (more_made first old new line h r k q after told c.loop.invariant there made)
+      | in-Passed w ↦
+          let there = subst (λ (n : Next). TakesNext old new n line) w.in-Passed.is c.in_ok-next.ensures in
+          rw (w.desk-is, w.review-is) (none_more first old new line h r k q c.loop.invariant there)
+    ]
